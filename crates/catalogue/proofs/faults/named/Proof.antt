@@ -1,0 +1,81 @@
+-- `faults::named`: whether the feature is in the whole list is at each turn whether it is in what is left, since no entry
+-- that was passed equals it.
+use Prim.Native.Nat.{ℕ, _+_, _-_, _≤_, _<_}
+use mathlib.Core.Path.{_≡_, sym, _∙_}
+use mathlib.Core.Bool.{true, false}
+use mathlib.Core.List.{List}
+use native.Mathlib.Omega.{arith}
+use borrow.Author.Needs.{needs}
+use borrow.Author.Tests.{eq-eqb, ne-eqb}
+use lib.ListN.{length, getD, drop}
+use Rattle.catalogue.specs.Fault.{member}
+use Rattle.catalogue.proofs.Steps.{left-next, left-none}
+use Rattle.catalogue.proofs.faults.named.Statement.{statement}
+use Rattle.catalogue.proofs.faults.named.Tie as tie
+
+module _ (feature : ℕ) (list : List ℕ) (i : ℕ) where
+  goes-on : i < length list → (feature ≡ getD list i 0 → ⊥) → member feature (drop i list) ≡ member feature (drop (i + 1) list)
+  unfolding member
+  goes-on h other = rw (left-next list i h, ne-eqb feature (getD list i 0) other)
+
+  found : i < length list → feature ≡ getD list i 0 → member feature (drop i list) ≡ true
+  unfolding member
+  found h same = rw (left-next list i h, eq-eqb feature (getD list i 0) same)
+
+  ends : length list ≤ i → member feature (drop i list) ≡ false
+  unfolding member
+  ends h = rw (left-none list i h)
+
+abbrev Inv-loop : tie.InvT-loop
+Inv-loop list feature i₀ i = (i ≤ length list) × (member feature list ≡ member feature (drop i list))
+
+abbrev μ-loop : tie.MeasureT-loop
+μ-loop list feature i₀ i = length list - i
+
+loop-holds : tie.Need-loop-holds Inv-loop μ-loop
+loop-holds c = search needs
+
+mul-if1 : tie.Need-mul-if1 Inv-loop μ-loop
+mul-if1 c = search needs
+
+shared-slice-read-if1 : tie.Need-shared-slice-read-if1 Inv-loop μ-loop
+shared-slice-read-if1 c = search needs
+
+returns : tie.Need-returns Inv-loop μ-loop
+returns c =
+    let loop = c .before .before .before .loop in
+    let start = c .before .before .before .before .args in
+    sym (loop .inv .1 ∙ found (start .feature) (start .list .now) (loop .i) (c .before .before .loop-test .taken) (c .if1 .taken))
+
+add-i : tie.Need-add-i Inv-loop μ-loop
+add-i c = omega arith
+
+loop-less : tie.Need-loop-less Inv-loop μ-loop
+loop-less c = omega arith
+
+loop-again : tie.Need-loop-again Inv-loop μ-loop
+loop-again c =
+    let loop = c .before .before .before .loop in
+    let start = c .before .before .before .before .args in
+    (omega arith, loop .inv .1 ∙ goes-on (start .feature) (start .list .now) (loop .i) (c .before .before .loop-test .taken) (c .if1 .left))
+
+returns-2 : tie.Need-returns-2 Inv-loop μ-loop
+returns-2 c =
+    let loop = c .before .loop in
+    let start = c .before .before .args in
+    sym (loop .inv .1 ∙ ends (start .feature) (start .list .now) (loop .i) (c .loop-test .left))
+
+pub named-spec : {M : Type 1} → statement M
+named-spec =
+    tie.close
+    (tie.spec
+    Inv-loop
+    μ-loop
+    loop-holds
+    mul-if1
+    shared-slice-read-if1
+    returns
+    add-i
+    loop-less
+    loop-again
+    returns-2)

@@ -1,0 +1,101 @@
+-- Some row matches when one of the rows that are left does, as long as none before did.
+use Prim.Native.Nat.{ℕ, _+_, _-_, _*_}
+use mathlib.Core.Path.{_≡_, sym, _∙_}
+use mathlib.Core.Bool.{Bool, _||_}
+use native.Mathlib.Omega.{arith}
+use lib.ListN.{length, drop}
+use lib.Seq.{drop-drop}
+use Rattle.catalogue.specs.Rule.{someRow}
+use Rattle.catalogue.specs.Catalogue.{rowsRead}
+use Rattle.catalogue.proofs.PlacedSteps.{product-step, rows-step, rows-end}
+use borrow.Author.Needs.{needs}
+use Rattle.catalogue.proofs.placed.some_row.Statement.{statement}
+use Rattle.catalogue.proofs.placed.some_row.Tie as tie
+
+abbrev Inv-loop : tie.InvT-loop
+Inv-loop rows count options left₀ place₀ left place =
+    (place + length options * left ≡ length rows)
+    × (someRow (rowsRead (length options) left (drop place rows)) options
+    ≡ someRow (rowsRead (length options) count rows) options)
+
+abbrev μ-loop : tie.MeasureT-loop
+μ-loop rows count options left₀ place₀ left place = left
+
+loop-holds : tie.Need-loop-holds Inv-loop μ-loop
+loop-holds c = search needs
+
+add-end : tie.Need-add-end Inv-loop μ-loop
+add-end c = search needs
+
+mul-row-matches : tie.Need-mul-row-matches Inv-loop μ-loop
+mul-row-matches c = search needs
+
+sub-row-matches : tie.Need-sub-row-matches Inv-loop μ-loop
+sub-row-matches c = search needs
+
+part-row-matches-start : tie.Need-part-row-matches-start Inv-loop μ-loop
+part-row-matches-start c = search needs
+
+part-row-matches-end : tie.Need-part-row-matches-end Inv-loop μ-loop
+part-row-matches-end c =
+    let l = c .before .loop in
+    let k = length (c .before .before .before .before .args .options .now) in
+    omega (arith, product-step k (l .left) (omega arith))
+
+row-matches-requires : tie.Need-row-matches-requires Inv-loop μ-loop
+row-matches-requires c κs = search needs
+
+-- whether a row matches of so many from a place on
+abbrev from : tie.At-loop Inv-loop μ-loop → ℕ → ℕ → Bool
+from c left place =
+    let a = c .before .before .before .args in someRow (rowsRead (length (a .options .now)) left (drop place (a .rows .now))) (a .options .now)
+
+row-tested : (c : tie.After-row-matches Inv-loop μ-loop)
+    → (c .row-matches .result || from (c .before .before .before) (c .before .before .before .loop .left - 1) (c .before .before .before .loop .place + length (c .before .before .before .before .before .before .args .options .now)))
+    ≡ from (c .before .before .before) (c .before .before .before .before .before .before .args .count) 0
+row-tested c =
+    let a = c .before .before .before .before .before .before .args in
+    let l = c .before .before .before .loop in
+    let k = length (a .options .now) in
+    let span : l .place + k - l .place ≡ k = omega arith in
+    let step = rw drop-drop at (rows-step k (l .left) (drop (l .place) (a .rows .now)) (a .options .now) (omega arith)) in
+    rw (c .row-matches .ensures, span) (sym step ∙ l .inv .1)
+
+returns : tie.Need-returns Inv-loop μ-loop
+returns c = rw (c .if1 .taken) at (row-tested (c .before))
+
+sub-left : tie.Need-sub-left Inv-loop μ-loop
+sub-left c = search needs
+
+loop-less : tie.Need-loop-less Inv-loop μ-loop
+loop-less c = search needs
+
+loop-again : tie.Need-loop-again Inv-loop μ-loop
+loop-again c =
+    let k = length (c .before .before .before .before .before .before .before .args .options .now) in
+    (omega (arith, product-step k (c .before .before .before .before .loop .left) (omega arith)), rw (c .if1 .left) at (row-tested (c .before)))
+
+returns-2 : tie.Need-returns-2 Inv-loop μ-loop
+returns-2 c =
+    let a = c .before .before .before .before .args in
+    let l = c .before .loop in
+    sym (rows-end (length (a .options .now)) (l .left) (drop (l .place) (a .rows .now)) (a .options .now) (omega arith)) ∙ l .inv .1
+
+pub some-row-spec : {M : Type 1} → statement M
+some-row-spec =
+    tie.close
+    (tie.spec
+    Inv-loop
+    μ-loop
+    loop-holds
+    add-end
+    mul-row-matches
+    sub-row-matches
+    part-row-matches-start
+    part-row-matches-end
+    row-matches-requires
+    returns
+    sub-left
+    loop-less
+    loop-again
+    returns-2)

@@ -1,0 +1,56 @@
+-- The format, said the other way round: how rules are written out, and which rules are well formed. The reader of
+-- `Fault` and `Catalogue` is tied to it by the law of proofs/Format.antt.
+use Prim.Native.Nat.{ℕ, _≤_, _<_}
+use mathlib.Core.Path.{_≡_}
+use mathlib.Core.List.{List, [], _∷_, _++_}
+use lib.ListN.{length, getD}
+use Rattle.catalogue.specs.Rule.{Rule}
+use Rattle.catalogue.specs.Catalogue.{Catalogue, rulesOf}
+
+-- what holds of every entry of a list
+pub data Every {A : Type 0} (P : A → Type 0) : List A → Type 0 where
+  none : Every P []
+  also : {x : A} {xs : List A} → P x → Every P xs → Every P (x ∷ xs)
+
+-- what holds of every two entries of a list
+pub data EveryTwo {A : Type 0} (P : A → A → Type 0) : List A → Type 0 where
+  none : EveryTwo P []
+  also : {x : A} {xs : List A} → Every (P x) xs → EveryTwo P xs → EveryTwo P (x ∷ xs)
+
+-- what holds of the entries of two lists of one length, taken together
+pub data Together {A B : Type 0} (P : A → B → Type 0) : List A → List B → Type 0 where
+  none : Together P [] []
+  also : {x : A} {y : B} {xs : List A} {ys : List B} → P x y → Together P xs ys → Together P (x ∷ xs) (y ∷ ys)
+
+unfoldable pub joined : List (List ℕ) → List ℕ
+joined [] = []
+joined (row ∷ rows) = row ++ joined rows
+
+-- arity, row count, features, rows
+unfoldable pub ruleWritten : Rule → List ℕ
+ruleWritten rule = length (rule .features) ∷ length (rule .rows) ∷ (rule .features ++ joined (rule .rows))
+
+unfoldable pub written : List Rule → List ℕ
+written [] = []
+written (rule ∷ rules) = ruleWritten rule ++ written rules
+
+-- an arity of 1 to 6, features of the catalogue that all differ, rows of one option of each
+pub record WellFormed (sizes : List ℕ) (rule : Rule) : Type 0 where
+  pub arity-low : 1 ≤ length (rule .features)
+  pub arity-high : length (rule .features) ≤ 6
+  pub known : Every (λ (f : ℕ). f < length sizes) (rule .features)
+  pub different : EveryTwo (λ (f g : ℕ). f ≡ g → ⊥) (rule .features)
+  pub within : Every (λ (row : List ℕ). Together (λ (f o : ℕ). o < getD sizes f 0) (rule .features) row) (rule .rows)
+
+-- 1 to 16 features of 1 to 16 options, and a rule list of at most 8,192 numbers that is the writing-out of 0 to 64
+-- well-formed rules, which are what reading it gives
+pub record Accepted (catalogue : Catalogue) : Type 0 where
+  pub some-feature : 1 ≤ length (catalogue .sizes)
+  pub few-features : length (catalogue .sizes) ≤ 16
+  pub sizes-fit : Every (λ (size : ℕ). (1 ≤ size) × (size ≤ 16)) (catalogue .sizes)
+  pub list-fits : length (catalogue .list) ≤ 8192
+  pub rules : List Rule
+  pub few-rules : length rules ≤ 64
+  pub well-formed : Every (WellFormed (catalogue .sizes)) rules
+  pub is-written : catalogue .list ≡ written rules
+  pub read-back : rulesOf catalogue ≡ rules

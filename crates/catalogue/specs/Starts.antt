@@ -1,0 +1,35 @@
+-- Where the rules begin that are tested at a feature. What the inner functions say of a rule list that was checked;
+-- no promise cites this file.
+use Prim.Native.Nat.{ℕ, zero, suc, _+_}
+use mathlib.Core.Bool.{Bool, true, false, cond, _&&_, _||_}
+use mathlib.Core.List.{List, [], _∷_}
+use lib.ListN.{length, drop}
+use lib.Dec.{leb, eqb}
+use Rattle.catalogue.specs.Rule.{Rule, highest}
+use Rattle.catalogue.specs.Catalogue.{arity, width, featuresRead, isEmpty, ruleRead}
+
+-- the rule at the front of a list has an arity of 1 to 6 and lies in the list whole
+abbrev pub wholeRule : List ℕ → Bool
+wholeRule list = leb 2 (length list) && (leb 1 (arity list) && (leb (arity list) 6 && leb (width list) (length list)))
+
+-- the list is at most so many such rules, one after another
+unfoldable pub wholeRules : ℕ → List ℕ → Bool
+wholeRules zero list = isEmpty list
+wholeRules (suc n) list = isEmpty list || (wholeRule list && wholeRules n (drop (width list) list))
+
+-- where the rules begin whose highest feature is j, of at most n rules from a place in the list on
+unfoldable pub startsFrom : ℕ → List ℕ → ℕ → ℕ → List ℕ
+startsFrom zero list place j = []
+startsFrom (suc n) list place j =
+    cond (isEmpty (drop place list)) []
+    (cond (eqb (highest (featuresRead (drop place list))) j)
+    (place ∷ startsFrom n list (place + width (drop place list)) j)
+    (startsFrom n list (place + width (drop place list)) j))
+
+abbrev pub startsAt : List ℕ → ℕ → List ℕ
+startsAt list j = startsFrom 64 list 0 j
+
+-- the rules that begin at those places
+unfoldable pub rulesFrom : List ℕ → List ℕ → List Rule
+rulesFrom list [] = []
+rulesFrom list (place ∷ places) = ruleRead (drop place list) ∷ rulesFrom list places

@@ -1,0 +1,36 @@
+-- Desk and board as they are handed from call to call.
+use Prim.Native.Nat.{ℕ, _*_}
+use mathlib.Core.List.{List, []}
+use lib.ListN.{getD, take, drop, set, replicate}
+use Rattle.seat.specs.declared.Seat.{Seat}
+use Rattle.seat.specs.declared.State.the-variants.{Closed}
+use Rattle.seat.specs.Clinic.{Clinic, closedSeat, put}
+use Rattle.desk.specs.declared.Desk.{Desk}
+
+pub record Room : Type 0 where
+  pub desk : Desk
+  pub board : List ℕ
+
+-- seats are numbered 0 to 7; what is read at another number is of no account
+abbrev pub seatAt : Desk → ℕ → Seat
+seatAt desk c = getD (desk .seats) c (record { state = Closed; choices = []; masks = []; trial = [] })
+
+-- seat c owns the 4,096 bytes from c × 4,096
+unfoldable pub shareAt : List ℕ → ℕ → List ℕ
+shareAt board c = take 4096 (drop (c * 4096) board)
+
+abbrev pub clinicAt : Room → ℕ → Clinic
+clinicAt room c = record { seat = seatAt (room .desk) c; share = shareAt (room .board) c }
+
+-- clinic c's record and share replaced, and the seat where the next turn begins; nothing else moves
+unfoldable pub withClinic : ℕ → ℕ → Clinic → Room → Room
+withClinic c next clinic room = record {
+  desk = record { seats = set (room .desk .seats) c (clinic .seat); next = next };
+  board = put (room .board) (c * 4096) (clinic .share);
+}
+
+abbrev pub freshDesk : Desk
+freshDesk = record { seats = replicate 8 closedSeat; next = 0 }
+
+abbrev pub emptyBoard : List ℕ
+emptyBoard = replicate 32768 255

@@ -1,0 +1,3 @@
+pub mod Trolley
+pub mod Worked
+pub mod WorkedRuns

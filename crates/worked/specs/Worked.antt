@@ -1,0 +1,83 @@
+-- The worked cases P1 to P10, one list: what the definitions give, and what the paper says. The claim that they agree
+-- is one line, proofs/Worked.antt.
+use Prim.Native.Nat.{ℕ}
+use mathlib.Core.List.{List, [], _∷_, _++_, map}
+use lib.ListN.{take, replicate}
+use Rattle.catalogue.specs.Catalogue.{Catalogue, rulesOf}
+use Rattle.catalogue.specs.Builds.{builds}
+use Rattle.seat.specs.declared.State.{State}
+use Rattle.seat.specs.declared.State.the-variants.{Closed, Ready, AtWork}
+use Rattle.seat.specs.Clinic.{Clinic, exampleIn}
+use Rattle.seat.specs.Step.{steps, posted}
+use Rattle.seat.specs.Count.{pairCounts, jobSteps}
+use Rattle.worked.specs.Trolley.{trolley, allUnequal, single, noChoices, lastChosen}
+
+pub record Case : Type 0 where
+  pub number : ℕ
+  pub given : List (List ℕ)
+  pub expected : List (List ℕ)
+
+-- a job after so many steps of the written search
+unfoldable pub jobAfter : Catalogue → List ℕ → ℕ → Clinic
+jobAfter catalogue choices n = steps catalogue n (posted (catalogue .sizes) choices)
+
+-- the masks of the catalogue's features
+unfoldable pub masksOf : ℕ → Clinic → List ℕ
+masksOf features clinic = take features (clinic .seat .masks)
+
+unfoldable pub exampleOf : ℕ → ℕ → Clinic → List ℕ
+exampleOf i a clinic = exampleIn (clinic .share) i a
+
+-- three options as an example's sixteen bytes
+unfoldable pub bytes16 : ℕ → ℕ → ℕ → List ℕ
+bytes16 x y z = x ∷ y ∷ z ∷ replicate 13 255
+
+-- 0 closed, 1 ready, 2 at work
+unfoldable pub stateNumber : State → ℕ
+stateNumber Closed = 0
+stateNumber Ready = 1
+stateNumber (AtWork p) = 2
+
+unfoldable pub stateOf : Clinic → List ℕ
+stateOf clinic = stateNumber (clinic .seat .state) ∷ []
+
+-- how many steps each pair of a job takes, their sum K, and the state after K − 1 and after K steps
+unfoldable pub lengths : Catalogue → List ℕ → ℕ → ℕ → List (List ℕ)
+lengths catalogue choices oneLess k =
+    pairCounts catalogue choices ∷ (jobSteps catalogue choices ∷ [])
+    ∷ stateOf (jobAfter catalogue choices oneLess) ∷ stateOf (jobAfter catalogue choices k) ∷ []
+
+unfoldable pub cases : List Case
+cases =
+    record {
+      number = 1;
+      given = builds (trolley .sizes) (rulesOf trolley) noChoices;
+      expected = (0 ∷ 1 ∷ 1 ∷ []) ∷ (1 ∷ 0 ∷ 0 ∷ []) ∷ (1 ∷ 2 ∷ 0 ∷ []) ∷ (1 ∷ 2 ∷ 1 ∷ []) ∷ (2 ∷ 1 ∷ 1 ∷ []) ∷ [];
+    }
+    ∷ record { number = 2; given = masksOf 3 (jobAfter trolley noChoices 39) ∷ []; expected = (7 ∷ 7 ∷ 3 ∷ []) ∷ [] }
+    ∷ record { number = 3; given = exampleOf 0 1 (jobAfter trolley noChoices 39) ∷ []; expected = bytes16 1 0 0 ∷ [] }
+    ∷ record { number = 4; given = exampleOf 1 2 (jobAfter trolley noChoices 39) ∷ []; expected = bytes16 1 2 0 ∷ [] }
+    ∷ record { number = 5; given = exampleOf 2 1 (jobAfter trolley noChoices 39) ∷ []; expected = bytes16 0 1 1 ∷ [] }
+    ∷ record {
+      number = 6;
+      given = lengths trolley noChoices 38 39;
+      expected = (5 ∷ 3 ∷ 5 ∷ 5 ∷ 4 ∷ 5 ∷ 8 ∷ 4 ∷ []) ∷ (39 ∷ []) ∷ (2 ∷ []) ∷ (1 ∷ []) ∷ [];
+    }
+    ∷ record { number = 7; given = masksOf 3 (jobAfter trolley lastChosen 40) ∷ []; expected = (2 ∷ 5 ∷ 1 ∷ []) ∷ [] }
+    ∷ record {
+      number = 8;
+      given = lengths trolley lastChosen 39 40;
+      expected = (5 ∷ 3 ∷ 5 ∷ 5 ∷ 8 ∷ 5 ∷ 8 ∷ 1 ∷ []) ∷ (40 ∷ []) ∷ (2 ∷ []) ∷ (1 ∷ []) ∷ [];
+    }
+    ∷ record {
+      number = 9;
+      given = masksOf 3 (jobAfter allUnequal noChoices (jobSteps allUnequal noChoices))
+          ∷ stateOf (jobAfter allUnequal noChoices (jobSteps allUnequal noChoices)) ∷ [];
+      expected = (0 ∷ 0 ∷ 0 ∷ []) ∷ (1 ∷ []) ∷ [];
+    }
+    ∷ record {
+      number = 10;
+      given = masksOf 1 (jobAfter single noChoices 1) ∷ lengths single noChoices 0 1;
+      expected = (1 ∷ []) ∷ (1 ∷ []) ∷ (1 ∷ []) ∷ (2 ∷ []) ∷ (1 ∷ []) ∷ [];
+    }
+    ∷ []
