@@ -5,7 +5,7 @@ use mathlib.Core.Path.{_≡_, refl, ap}
 use mathlib.Core.List.{List, _∷_}
 use native.Mathlib.Omega.{arith}
 use lib.ListN.{length, getD}
-use Rattle.catalogue.specs.Format.{Every, Together}
+use Rattle.catalogue.specs.Every.{Every, Together}
 
 module _ {A : Type 0} {P : A → Type 0} where
   pub every-at : {xs : List A} → Every P xs → (d : A) (i : ℕ) → i < length xs → P (getD xs i d)

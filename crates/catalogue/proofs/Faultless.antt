@@ -10,7 +10,7 @@ use borrow.Author.Tests.{ltb-false, le-ltb, leb-true, le-leb}
 use Rattle.catalogue.specs.Catalogue.{Catalogue, arity, width}
 use Rattle.catalogue.specs.Fault.{sizesFault, rulesFault, faultOf, oneTo16}
 use Rattle.catalogue.specs.Starts.{wholeRule, wholeRules}
-use Rattle.catalogue.specs.Format.{Every}
+use Rattle.catalogue.specs.Every.{Every}
 use Rattle.catalogue.proofs.Every.{every-at}
 use Rattle.catalogue.proofs.Inversion.{orElse-zero, when-zero, when-not-zero, ruleFault-zero}
 use Rattle.catalogue.proofs.WholeRule.{Whole}

@@ -14,7 +14,8 @@ use lib.ListN.{length, drop}
 use Rattle.catalogue.specs.Rule.{Rule}
 use Rattle.catalogue.specs.Catalogue.{Catalogue, width, isEmpty, ruleRead, rulesRead, rulesOf}
 use Rattle.catalogue.specs.Fault.{rulesFault, faultOf}
-use Rattle.catalogue.specs.Format.{Every, ruleWritten, written, WellFormed, Accepted}
+use Rattle.catalogue.specs.Every.{Every}
+use Rattle.catalogue.specs.Format.{ruleWritten, written, WellFormed, Accepted}
 use Rattle.catalogue.proofs.Inversion.{orElse-zero}
 use Rattle.catalogue.proofs.Faultless.{sizesFault-every, every-sizesFault, fault-zero, faultless-zero}
 use Rattle.catalogue.proofs.Format.OneRule.{rule-read, rule-front, rule-written, rule-back, rest-back}

@@ -14,7 +14,7 @@ use lib.Dec.{eqb}
 use Rattle.catalogue.specs.Rule.{Rule, highest, rulesAt, satisfies, satisfiesAll, passes}
 use Rattle.catalogue.specs.Catalogue.{width, featuresRead, isEmpty, ruleRead, rulesRead}
 use Rattle.catalogue.specs.Starts.{wholeRule, wholeRules, startsFrom, startsAt, rulesFrom}
-use Rattle.catalogue.specs.Format.{Every, none, also}
+use Rattle.catalogue.specs.Every.{Every, none, also}
 use Rattle.catalogue.proofs.Every.{every-at}
 use Rattle.catalogue.proofs.WholeRule.{Whole, whole, both}
 

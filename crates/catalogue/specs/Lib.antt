@@ -1,8 +1,10 @@
--- What a reader of this crate must believe, lowest first.
+-- What a reader of this crate must believe, lowest first; `Starts` is for the code alone.
+pub mod Every
 pub mod Checks
 pub mod Rule
-pub mod Builds
 pub mod Catalogue
 pub mod Fault
-pub mod Starts
 pub mod Format
+pub mod Build
+pub mod Builds
+pub mod Starts

@@ -6,7 +6,7 @@ use mathlib.Core.List.{List, [], _∷_, _++_}
 use lib.Dec.{eqb}
 use borrow.Author.Tests.{ltb-true, lt-ltb, eqb-false, ne-eqb}
 use Rattle.catalogue.specs.Fault.{member, featuresFault}
-use Rattle.catalogue.specs.Format.{Every, EveryTwo}
+use Rattle.catalogue.specs.Every.{Every, EveryTwo}
 use Rattle.catalogue.proofs.Inversion.{orElse-zero, when-zero, when-not-zero}
 use Rattle.catalogue.proofs.Every.{every-head, every-tail, every-weaken, every-both}
 

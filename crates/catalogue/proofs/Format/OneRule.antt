@@ -9,7 +9,8 @@ use lib.Seq.{length-take-le, take-at, drop-at, drop-drop}
 use Rattle.catalogue.specs.Rule.{Rule}
 use Rattle.catalogue.specs.Catalogue.{arity, rowCount, headerEnd, width, featuresRead, rowsRead, ruleRead}
 use Rattle.catalogue.specs.Fault.{ruleFault}
-use Rattle.catalogue.specs.Format.{Every, joined, ruleWritten, WellFormed}
+use Rattle.catalogue.specs.Every.{Every}
+use Rattle.catalogue.specs.Format.{joined, ruleWritten, WellFormed}
 use Rattle.catalogue.proofs.Inversion.{Passed, ruleFault-passed, passed-ruleFault}
 use Rattle.catalogue.proofs.Every.{every-weaken, together-length}
 use Rattle.catalogue.proofs.Format.Rows.{rows-count, rows-joined, rows-read, rows-written, rows-length, rows-back}

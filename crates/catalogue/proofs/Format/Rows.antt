@@ -12,7 +12,8 @@ use lib.Dec.{ltb}
 use borrow.Author.Tests.{ltb-true, lt-ltb}
 use Rattle.catalogue.specs.Catalogue.{rowsRead}
 use Rattle.catalogue.specs.Fault.{rowFits, rowsFault}
-use Rattle.catalogue.specs.Format.{Every, Together, joined}
+use Rattle.catalogue.specs.Every.{Every, Together}
+use Rattle.catalogue.specs.Format.{joined}
 use Rattle.catalogue.proofs.Inversion.{orElse-zero, when-not-zero}
 use Rattle.catalogue.proofs.Every.{together-length}
 
