@@ -1,11 +1,11 @@
 -- A build as a clinic means it, said without any list of builds: it has an option of each feature, satisfies every rule
 -- and keeps every choice in force. Builds are ordered as in a dictionary, feature 0 first.
-use Prim.Native.Nat.{ℕ, _<_}
+use Prim.Native.Nat.{ℕ, _-_, _<_}
 use mathlib.Core.Path.{_≡_}
 use mathlib.Core.Bool.{true}
 use mathlib.Core.Logic.{_⊎_}
-use mathlib.Core.List.{List, _∷_}
-use lib.ListN.{length, getD}
+use mathlib.Core.List.{List, _∷_, _++_}
+use lib.ListN.{length, getD, replicate}
 use Rattle.catalogue.specs.Every.{Every}
 use Rattle.catalogue.specs.Rule.{Rule, optionAt, satisfies}
 use Rattle.catalogue.specs.Catalogue.{Catalogue, rulesOf}
@@ -30,3 +30,7 @@ pub data Before : List ℕ → List ℕ → Type 0 where
 pub record FirstWith (catalogue : Catalogue) (choices : List ℕ) (i a : ℕ) (build : List ℕ) : Type 0 where
   pub one-of-them : BuildWith catalogue choices i a build
   pub none-before : (other : List ℕ) → BuildWith catalogue choices i a other → (build ≡ other) ⊎ Before build other
+
+-- sixteen bytes: the build's options, then 255 for features not in the catalogue
+abbrev pub padded : List ℕ → List ℕ
+padded build = build ++ replicate (16 - length build) 255

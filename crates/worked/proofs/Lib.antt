@@ -1,2 +1,3 @@
+pub mod Computing
 pub mod Worked
 pub mod WorkedRuns

@@ -1,0 +1,2 @@
+-- OnTheTrolley: each statement says something of the trolley.
+pub mod OnTheTrolley

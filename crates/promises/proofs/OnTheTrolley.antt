@@ -1,0 +1,124 @@
+-- Each statement of specs/ is about something: on the trolley its premises hold, by computation, and what it then says is
+-- a plain fact about a run that can be made. None of these proves a demand; each takes one and puts it to use.
+use Prim.Native.Nat.{ℕ, zero, suc, _<_}
+use mathlib.Core.Path.{_≡_, refl}
+use mathlib.Core.Logic.{_↔_}
+use mathlib.Core.Bool.{true}
+use mathlib.Core.List.{List, [], _∷_, _++_}
+use native.Mathlib.Nat.{le-of-suc-le-suc, not-suc-le-zero}
+use native.Mathlib.Omega.{arith}
+use lib.ListN.{length, getD, replicate}
+use lib.Dec.{lit<, lit≤}
+use Rattle.catalogue.specs.Every.{none, also}
+use Rattle.catalogue.specs.Rule.{optionAt}
+use Rattle.catalogue.specs.Build.{IsBuild, BuildWith}
+use Rattle.seat.specs.declared.State.the-variants.{Ready}
+use Rattle.seat.specs.Bits.{hasBit}
+use Rattle.seat.specs.Clinic.{Clinic, nothing16}
+use Rattle.seat.specs.Step.{steps, posted}
+use Rattle.desk.specs.Room.{clinicAt}
+use Rattle.desk.specs.Call.{Call, enter, choose, options, turns}
+use Rattle.desk.specs.Perform.{perform}
+use Rattle.desk.specs.Run.{job}
+use Rattle.worked.specs.Trolley.{trolley}
+use Rattle.worked.proofs.Computing.{computing}
+use Rattle.promises.specs.Moment.{moment, Opened, seatIn}
+use Rattle.promises.specs.Refusals.{Refusals, Gives, this, next}
+use Rattle.promises.specs.OptionsLeft.{OptionsLeft}
+use Rattle.promises.specs.Waiting.{Waiting}
+use Rattle.promises.specs.SearchState.{SearchState, Stands, blank, searching}
+use Rattle.promises.specs.TwoRuns.{TwoRuns}
+use Rattle.promises.specs.InARun.{EveryRun}
+
+board : List ℕ
+board = replicate 32768 7
+
+opens : Opened trolley board
+unfolding board computing
+opens = refl
+
+-- Demand 1: there is no seat 9.
+refusals : Refusals → perform trolley (enter 9) (moment trolley board []) .answer .number ≡ 30
+unfolding board computing moment
+refusals demand = demand .by-the-table trolley (enter 9) (moment trolley board []) 30 .1 (next (next (this (λ e. omega arith))))
+
+-- Demand 2: 100 is a build, so that option 1 of feature 0 is left once seat 0 is ready.
+ready : List Call
+ready = enter 0 ∷ turns 39 ∷ []
+
+build-100 : List ℕ
+build-100 = 1 ∷ 0 ∷ 0 ∷ []
+
+within-100 : (f : ℕ) → f < 3 → optionAt build-100 f < getD (trolley .sizes) f 0
+unfolding build-100 trolley
+within-100 zero h = lit< tt
+within-100 (suc zero) h = lit< tt
+within-100 (suc (suc zero)) h = lit< tt
+within-100 (suc (suc (suc f))) h = absurd (not-suc-le-zero (le-of-suc-le-suc (le-of-suc-le-suc (le-of-suc-le-suc h))))
+
+nothing-anywhere : (n f : ℕ) → _≡_ {A = ℕ} (getD (replicate n 255) f 255) 255
+nothing-anywhere zero f = refl
+nothing-anywhere (suc n) zero = refl
+nothing-anywhere (suc n) (suc f) = nothing-anywhere n f
+
+is-build : BuildWith trolley (seatIn (moment trolley board ready) 0 .choices) 0 1 build-100
+unfolding build-100 board ready computing moment
+is-build =
+    record {
+      is-build = record {
+        complete = refl;
+        within = within-100;
+        every-rule = also refl (also refl none);
+        every-choice = λ f h chosen. absurd (chosen (nothing-anywhere 16 f));
+      };
+      contains = refl;
+    }
+
+is-ready : seatIn (moment trolley board ready) 0 .state ≡ Ready
+unfolding board ready computing moment
+is-ready = refl
+
+one-feature : 0 < length (trolley .sizes)
+unfolding trolley
+one-feature = lit< tt
+
+options-left : OptionsLeft → hasBit (perform trolley (options 0 0) (moment trolley board ready) .answer .mask) 1 ≡ true
+options-left demand =
+    let shown = demand trolley board ready 0 (lit< tt) is-ready 0 one-feature in
+    rw (shown .options-answer) (shown .left-exactly 1 .1 (build-100, is-build))
+
+-- Demand 3: of eight seats at work the last is ready after 8 × 39 turns.
+seven : List Call
+seven = enter 0 ∷ enter 1 ∷ enter 2 ∷ enter 3 ∷ enter 4 ∷ enter 5 ∷ enter 6 ∷ []
+
+waiting : Waiting → seatIn (moment trolley board (seven ++ enter 7 ∷ turns 312 ∷ [])) 7 .state ≡ Ready
+unfolding board seven computing moment
+waiting demand = demand trolley board opens seven (enter 7) (turns 312 ∷ []) 7 (lit< tt) refl refl (also refl none) (lit≤ tt)
+
+-- After five turns seat 3 stands where the written search stands after five steps.
+begun : List Call
+begun = enter 3 ∷ turns 5 ∷ []
+
+in-a-search : {clinic : Clinic} {choices : List ℕ} {given : ℕ} → Stands trolley clinic (job choices given)
+    → clinic ≡ steps trolley given (posted (trolley .sizes) choices)
+in-a-search (searching same few ready) = same
+
+search-state : SearchState → clinicAt (moment trolley board begun) 3 ≡ steps trolley 5 (posted (trolley .sizes) nothing16)
+unfolding board begun computing moment
+search-state demand = in-a-search {given = 5} (demand trolley board opens begun 3 (lit< tt))
+
+-- Seat 3 alone, and seat 3 beside seat 5: the same calls, five steps after them.
+beside : List Call
+beside = enter 5 ∷ enter 3 ∷ turns 10 ∷ options 5 0 ∷ []
+
+two-runs : TwoRuns → clinicAt (moment trolley board begun) 3 ≡ clinicAt (moment trolley board beside) 3
+unfolding board begun beside computing moment
+two-runs demand = demand trolley board board opens opens begun beside 3 (lit< tt) refl .1
+
+-- The chosen option alone is left.
+chosen : List Call
+chosen = ready ++ choose 0 2 0 ∷ turns 40 ∷ []
+
+choice-alone : EveryRun → (a : ℕ) → (hasBit (getD (seatIn (moment trolley board chosen) 0 .masks) 2 0) a ≡ true) ↔ (a ≡ 0)
+unfolding board ready chosen computing moment
+choice-alone demand = demand trolley board opens chosen 0 (lit< tt) .choice-alone refl 2 0 (lit< tt) refl (λ e. omega arith)

@@ -1,0 +1,8 @@
+-- The letter's three demands and the paper's sentences on a run, one file each. A reader starts here.
+pub mod Moment
+pub mod Refusals
+pub mod OptionsLeft
+pub mod Waiting
+pub mod SearchState
+pub mod TwoRuns
+pub mod InARun

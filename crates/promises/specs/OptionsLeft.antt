@@ -1,0 +1,38 @@
+-- Demand 2. When a clinic's seat is ready, an option is shown as left exactly when some complete build satisfies every
+-- rule and every choice now in force and contains that option. Beside each such option stands the first such build in
+-- dictionary order.
+use Prim.Native.Nat.{ℕ, _<_}
+use mathlib.Core.Path.{_≡_}
+use mathlib.Core.Logic.{_↔_}
+use mathlib.Core.Bool.{true}
+use mathlib.Core.List.{List}
+use lib.ListN.{length, getD, replicate}
+use Rattle.catalogue.specs.Catalogue.{Catalogue}
+use Rattle.catalogue.specs.Build.{BuildWith, FirstWith, padded}
+use Rattle.seat.specs.declared.State.the-variants.{Ready}
+use Rattle.seat.specs.Bits.{hasBit, bitCount}
+use Rattle.seat.specs.Clinic.{exampleIn}
+use Rattle.desk.specs.Room.{Room, shareAt}
+use Rattle.desk.specs.Call.{Call, options, example, Answer, refused}
+use Rattle.desk.specs.Perform.{Outcome, perform, optionsAnswer, exampleAnswer}
+use Rattle.promises.specs.Moment.{moment, seatIn}
+
+-- what seat c is shown of feature i, through the answers of the options and example calls
+pub record Shown (catalogue : Catalogue) (room : Room) (c i : ℕ) : Type 0 where
+  pub mask : ℕ
+  pub options-answer : perform catalogue (options c i) room .answer ≡ optionsAnswer mask
+  pub left-exactly : (a : ℕ)
+      → (hasBit mask a ≡ true) ↔ ((build : List ℕ) × BuildWith catalogue (seatIn room c .choices) i a build)
+  pub first-beside : (a : ℕ) → hasBit mask a ≡ true
+      → (build : List ℕ) × FirstWith catalogue (seatIn room c .choices) i a build
+      × (perform catalogue (example c i a) room .answer ≡ exampleAnswer (padded build))
+  pub none-beside : (a : ℕ) → a < getD (catalogue .sizes) i 0 → (hasBit mask a ≡ true → ⊥)
+      → (perform catalogue (example c i a) room .answer ≡ refused 37)
+      × (exampleIn (shareAt (room .board) c) i a ≡ replicate 16 255)
+
+abbrev pub OptionsLeft : Type 0
+OptionsLeft =
+    (catalogue : Catalogue) (board : List ℕ) (calls : List Call) (c : ℕ) → c < 8
+    → seatIn (moment catalogue board calls) c .state ≡ Ready
+    → (i : ℕ) → i < length (catalogue .sizes)
+    → Shown catalogue (moment catalogue board calls) c i

@@ -1,0 +1,25 @@
+-- Demand 3, waiting. A seat whose job takes K steps of the written search is ready at most 8×K turns after the job was
+-- posted, if its own clinic makes no call meanwhile, however busy the others are. The turns that are asked for are
+-- enough: fewer are made only where no seat is at work.
+use Prim.Native.Nat.{ℕ, _*_, _≤_, _<_}
+use mathlib.Core.Path.{_≡_}
+use mathlib.Core.Bool.{true, false}
+use mathlib.Core.List.{List, [], _∷_, _++_}
+use Rattle.catalogue.specs.Every.{Every}
+use Rattle.catalogue.specs.Catalogue.{Catalogue}
+use Rattle.seat.specs.declared.State.the-variants.{Ready}
+use Rattle.seat.specs.Count.{jobSteps}
+use Rattle.desk.specs.Call.{Call, isOf}
+use Rattle.desk.specs.Perform.{perform}
+use Rattle.desk.specs.Run.{allTurnsAsked, postsFor}
+use Rattle.promises.specs.Moment.{moment, Opened, seatIn}
+
+abbrev pub Waiting : Type 0
+Waiting =
+    (catalogue : Catalogue) (board : List ℕ) → Opened catalogue board
+    → (before : List Call) (post : Call) (after : List Call) (c : ℕ) → c < 8
+    → postsFor c post ≡ true
+    → perform catalogue post (moment catalogue board before) .answer .number ≡ 0
+    → Every (λ (call : Call). isOf c call ≡ false) after
+    → 8 * jobSteps catalogue (seatIn (moment catalogue board (before ++ post ∷ [])) c .choices) ≤ allTurnsAsked after
+    → seatIn (moment catalogue board (before ++ post ∷ after)) c .state ≡ Ready

@@ -1,0 +1,1 @@
+// No code: what the letter demands, stated in specs/ over the definitions that the calls' contracts cite.
