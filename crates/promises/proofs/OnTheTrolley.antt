@@ -12,6 +12,7 @@ use lib.Dec.{lit<, lit≤}
 use Rattle.catalogue.specs.Every.{none, also}
 use Rattle.catalogue.specs.Rule.{optionAt}
 use Rattle.catalogue.specs.Build.{IsBuild, BuildWith}
+use Rattle.catalogue.proofs.Padded.{nothing-there}
 use Rattle.seat.specs.declared.State.the-variants.{Ready}
 use Rattle.seat.specs.Bits.{hasBit}
 use Rattle.seat.specs.Clinic.{Clinic, nothing16}
@@ -56,11 +57,6 @@ within-100 (suc zero) h = lit< tt
 within-100 (suc (suc zero)) h = lit< tt
 within-100 (suc (suc (suc f))) h = absurd (not-suc-le-zero (le-of-suc-le-suc (le-of-suc-le-suc (le-of-suc-le-suc h))))
 
-nothing-anywhere : (n f : ℕ) → _≡_ {A = ℕ} (getD (replicate n 255) f 255) 255
-nothing-anywhere zero f = refl
-nothing-anywhere (suc n) zero = refl
-nothing-anywhere (suc n) (suc f) = nothing-anywhere n f
-
 is-build : BuildWith trolley (seatIn (moment trolley board ready) 0 .choices) 0 1 build-100
 unfolding build-100 board ready computing moment
 is-build =
@@ -69,7 +65,7 @@ is-build =
         complete = refl;
         within = within-100;
         every-rule = also refl (also refl none);
-        every-choice = λ f h chosen. absurd (chosen (nothing-anywhere 16 f));
+        every-choice = λ f h chosen. absurd (chosen (nothing-there 16 f));
       };
       contains = refl;
     }

@@ -1,3 +1,4 @@
 pub mod Computing
 pub mod Worked
 pub mod WorkedRuns
+pub mod TrolleyFits

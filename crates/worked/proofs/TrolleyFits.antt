@@ -1,0 +1,24 @@
+-- The premises of the search's theorem can be met: the trolley meets them for option 2 of feature 1, without choices. And
+-- case P4 in propositions: the first build that contains that option is 120.
+use mathlib.Core.Path.{refl}
+use mathlib.Core.Logic.{inl}
+use mathlib.Core.List.{[], _∷_}
+use mathlib.Core.Option.{some}
+use native.Mathlib.Omega.{arith}
+use Rattle.catalogue.specs.Rule.{optionsAt, matches, someRow, satisfies, satisfiesAll}
+use Rattle.catalogue.specs.Catalogue.{rowsRead, ruleRead, rulesRead, rulesOf}
+use Rattle.catalogue.specs.Fault.{sizesFault, member, featuresFault, rowFits, rowsFault, ruleFault, rulesFault, faultOf}
+use Rattle.catalogue.specs.Builds.{countFrom, inFront, instantiations, keepsChoices, keep, builds, buildsWith}
+use Rattle.catalogue.proofs.Padded.{nothing-there}
+use Rattle.catalogue.proofs.Dictionary.{FirstIs}
+use Rattle.catalogue.proofs.Builds.{first-listed}
+use Rattle.seat.proofs.Fitting.{Fitting}
+use Rattle.worked.specs.Trolley.{trolley, noChoices}
+
+pub trolley-fits : Fitting trolley noChoices 1 2
+unfolding trolley sizesFault member featuresFault rowFits rowsFault ruleFault rulesFault faultOf
+trolley-fits = record { faultless = refl; feature = omega arith; option = omega arith; choices-fit = λ f l. inl (nothing-there 16 f) }
+
+pub trolley-first : FirstIs trolley noChoices 1 2 (some (1 ∷ 2 ∷ 0 ∷ []))
+unfolding trolley optionsAt matches someRow satisfies satisfiesAll rowsRead ruleRead rulesRead rulesOf countFrom inFront instantiations keepsChoices keep builds buildsWith
+trolley-first = first-listed trolley noChoices 1 2
