@@ -9,7 +9,7 @@ use lib.ListN.{length, drop}
 use lib.Dec.{leb}
 use borrow.Author.Tests.{ltb-false, le-ltb, leb-true, le-leb, not-false}
 use Rattle.catalogue.specs.Checks.{when, orElse}
-use Rattle.catalogue.specs.Catalogue.{arity, rowCount, headerEnd, width, featuresRead}
+use Rattle.catalogue.specs.Catalogue.{arity, rowCount, rowsBegin, width, featuresRead}
 use Rattle.catalogue.specs.Fault.{ruleFault, featuresFault, rowsFault}
 use Rattle.catalogue.proofs.WholeRule.{Whole}
 
@@ -32,8 +32,8 @@ pub record Passed (sizes list : List ℕ) : Type 0 where
   pub arity-high : arity list ≤ 6
   pub has-features : arity list ≤ length list - 2
   pub features-fit : featuresFault (length sizes) [] (featuresRead list) ≡ 0
-  pub has-rows : arity list * rowCount list ≤ length list - headerEnd list
-  pub rows-fit : rowsFault sizes (featuresRead list) (rowCount list) (drop (headerEnd list) list) ≡ 0
+  pub has-rows : arity list * rowCount list ≤ length list - rowsBegin list
+  pub rows-fit : rowsFault sizes (featuresRead list) (rowCount list) (drop (rowsBegin list) list) ≡ 0
 
 pub ruleFault-passed : (sizes list : List ℕ) → ruleFault sizes list ≡ 0 → Passed sizes list
 unfolding ruleFault
@@ -51,7 +51,7 @@ ruleFault-passed sizes list h =
       arity-high = leb-true (arity list) 6 (a .1);
       has-features = ltb-false (length list - 2) (arity list) (when-zero _ 13 (t3 .0));
       features-fit = t4 .0;
-      has-rows = ltb-false (length list - headerEnd list) (arity list * rowCount list) (when-zero _ 13 (t5 .0));
+      has-rows = ltb-false (length list - rowsBegin list) (arity list * rowCount list) (when-zero _ 13 (t5 .0));
       rows-fit = t6 .0;
     }
 
@@ -64,7 +64,7 @@ passed-ruleFault sizes list p =
       le-leb (arity list) 6 (p .arity-high),
       le-ltb (length list - 2) (arity list) (p .has-features),
       p .features-fit,
-      le-ltb (length list - headerEnd list) (arity list * rowCount list) (p .has-rows),
+      le-ltb (length list - rowsBegin list) (arity list * rowCount list) (p .has-rows),
       p .rows-fit,
     )
     refl

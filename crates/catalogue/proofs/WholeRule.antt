@@ -9,7 +9,7 @@ use borrow.Author.Tests.{leb-true}
 use lib.ListN.{length, take, drop}
 use lib.Seq.{take-take, take-nil}
 use Rattle.catalogue.specs.Rule.{optionsAt, someRow, satisfies}
-use Rattle.catalogue.specs.Catalogue.{arity, rowCount, headerEnd, width, featuresRead, rowsRead, ruleRead}
+use Rattle.catalogue.specs.Catalogue.{arity, rowCount, rowsBegin, width, featuresRead, rowsRead, ruleRead}
 use Rattle.catalogue.specs.Starts.{wholeRule}
 
 pub record Whole (list : List ℕ) : Type 0 where
@@ -46,7 +46,7 @@ rows-of-part k zero l = refl
 rows-of-part k (suc m) l = rw (mul-suc, add-comm (k * m) k, take-take k (k + k * m) l (le-add-right k (k * m)), drop-take, rows-of-part k m (drop k l))
 
 pub satisfied-by-parts : (list placed options : List ℕ) → take (arity list) options ≡ optionsAt placed (featuresRead list)
-    → someRow (rowsRead (arity list) (rowCount list) (take (arity list * rowCount list) (drop (headerEnd list) list)))
+    → someRow (rowsRead (arity list) (rowCount list) (take (arity list * rowCount list) (drop (rowsBegin list) list)))
     (take (arity list) options)
     ≡ satisfies placed (ruleRead list)
 unfolding satisfies ruleRead

@@ -8,12 +8,12 @@ use mathlib.Core.List.{List, _∷_, _++_}
 use lib.ListN.{length, getD, replicate}
 use Rattle.catalogue.specs.Every.{Every}
 use Rattle.catalogue.specs.Rule.{Rule, optionAt, satisfies}
-use Rattle.catalogue.specs.Catalogue.{Catalogue, rulesOf}
+use Rattle.catalogue.specs.Catalogue.{Catalogue, sizeOf, rulesOf}
 
 -- choices: an option for each feature, 255 for none
 pub record IsBuild (catalogue : Catalogue) (choices build : List ℕ) : Type 0 where
   pub complete : length build ≡ length (catalogue .sizes)
-  pub within : (f : ℕ) → f < length (catalogue .sizes) → optionAt build f < getD (catalogue .sizes) f 0
+  pub within : (f : ℕ) → f < length (catalogue .sizes) → optionAt build f < sizeOf catalogue f
   pub every-rule : Every (λ (rule : Rule). satisfies build rule ≡ true) (rulesOf catalogue)
   pub every-choice : (f : ℕ) → f < length (catalogue .sizes) → (getD choices f 255 ≡ 255 → ⊥) → optionAt build f ≡ getD choices f 255
 

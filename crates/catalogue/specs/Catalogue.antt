@@ -10,6 +10,10 @@ pub record Catalogue : Type 0 where
   pub sizes : List ℕ
   pub list : List ℕ
 
+-- 0 for a missing feature, so that it has no option
+abbrev pub sizeOf : Catalogue → ℕ → ℕ
+sizeOf catalogue f = getD (catalogue .sizes) f 0
+
 abbrev pub arity : List ℕ → ℕ
 arity list = getD list 0 0
 
@@ -17,11 +21,11 @@ abbrev pub rowCount : List ℕ → ℕ
 rowCount list = getD list 1 0
 
 -- where the rows of the first rule begin, and where the next rule does
-abbrev pub headerEnd : List ℕ → ℕ
-headerEnd list = 2 + arity list
+abbrev pub rowsBegin : List ℕ → ℕ
+rowsBegin list = 2 + arity list
 
 abbrev pub width : List ℕ → ℕ
-width list = headerEnd list + arity list * rowCount list
+width list = rowsBegin list + arity list * rowCount list
 
 abbrev pub featuresRead : List ℕ → List ℕ
 featuresRead list = take (arity list) (drop 2 list)
@@ -33,7 +37,7 @@ rowsRead k (suc m) list = take k list ∷ rowsRead k m (drop k list)
 
 -- the rule at the front of a list
 unfoldable pub ruleRead : List ℕ → Rule
-ruleRead list = record { features = featuresRead list; rows = rowsRead (arity list) (rowCount list) (drop (headerEnd list) list) }
+ruleRead list = record { features = featuresRead list; rows = rowsRead (arity list) (rowCount list) (drop (rowsBegin list) list) }
 
 abbrev pub isEmpty : List ℕ → Bool
 isEmpty [] = true

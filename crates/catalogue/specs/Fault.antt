@@ -2,10 +2,10 @@
 use Prim.Native.Nat.{ℕ, zero, suc, _+_, _-_, _*_}
 use mathlib.Core.Bool.{Bool, true, false, cond, not, _&&_, _||_}
 use mathlib.Core.List.{List, [], _∷_, _++_}
-use lib.ListN.{length, getD, take, drop}
+use lib.ListN.{length, getD, drop}
 use lib.Dec.{ltb, leb, eqb}
 use Rattle.catalogue.specs.Checks.{when, orElse, first}
-use Rattle.catalogue.specs.Catalogue.{Catalogue, arity, rowCount, headerEnd, width, featuresRead, isEmpty}
+use Rattle.catalogue.specs.Catalogue.{Catalogue, arity, rowCount, rowsBegin, width, featuresRead, isEmpty}
 
 -- 1 to 16: a feature count, a size
 abbrev pub oneTo16 : ℕ → Bool
@@ -42,8 +42,8 @@ ruleFault sizes list =
     ∷ when (not (leb 1 (arity list) && leb (arity list) 6)) 15
     ∷ when (ltb (length list - 2) (arity list)) 14
     ∷ featuresFault (length sizes) [] (featuresRead list)
-    ∷ when (ltb (length list - headerEnd list) (arity list * rowCount list)) 14
-    ∷ rowsFault sizes (featuresRead list) (rowCount list) (drop (headerEnd list) list)
+    ∷ when (ltb (length list - rowsBegin list) (arity list * rowCount list)) 14
+    ∷ rowsFault sizes (featuresRead list) (rowCount list) (drop (rowsBegin list) list)
     ∷ [])
 
 -- rule by rule while numbers remain; so many rules may still come

@@ -6,10 +6,10 @@ ghost use mathlib.Core.Bool.{true};
 ghost use Prim.Native.Nat.{_≤_, _*_};
 ghost use lib.ListN.{length, take};
 ghost use Rattle.catalogue.specs.Rule.{highest, matches, someRow, optionAt, optionsAt, satisfies, passes};
-ghost use Rattle.catalogue.specs.Catalogue.{rowsRead, ruleRead, rulesRead, featuresRead, width};
+ghost use Rattle.catalogue.specs.Catalogue.{rowsRead, ruleRead, rulesRead};
 ghost use Rattle.catalogue.specs.Starts.{wholeRule, wholeRules, startsAt};
 
-// Whether what is placed passes the test at feature j. Entries that are not placed are 255 and match no row.
+// Whether what is placed passes the test at feature j: it satisfies each rule whose highest-numbered feature is j.
 pub fn passes(rules: &[u16], j: usize, starts: &[u16], placed: &[u8]) -> bool
     requires { ⌜ wholeRules 64 (now rules) ≡ true ⌝ }
     requires { ⌜ now starts ≡ startsAt (now rules) j ⌝ }

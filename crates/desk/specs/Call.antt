@@ -11,6 +11,7 @@ pub data Call : Type 0 where
   choose : (seat feature option : ℕ) → Call
   relax : (seat feature : ℕ) → Call
   options : (seat feature : ℕ) → Call
+  -- answered by two functions: one gives the bytes, the other the number
   example : (seat feature option : ℕ) → Call
   turns : (w : ℕ) → Call
 
@@ -54,5 +55,6 @@ pub record Answer : Type 0 where
 abbrev pub refused : ℕ → Answer
 refused number = record { number = number; mask = 0; count = 0; bytes = []; made = 0; working = false }
 
-abbrev pub accepted : Answer
-accepted = refused 0
+-- the answer of a call that is not refused and has no more to say
+abbrev pub plain : Answer
+plain = refused 0

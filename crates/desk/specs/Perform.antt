@@ -1,16 +1,16 @@
 -- Each call as a definition of answer, desk and board for every input.
 use Prim.Native.Nat.{ℕ, zero, suc}
-use mathlib.Core.Bool.{Bool, true, false}
+use mathlib.Core.Bool.{Bool, false}
 use mathlib.Core.List.{List, []}
 use lib.ListN.{getD, set}
 use Rattle.catalogue.specs.Catalogue.{Catalogue}
 use Rattle.seat.specs.Bits.{bitCount}
 use Rattle.seat.specs.Clinic.{Clinic, closedClinic, exampleIn}
 use Rattle.seat.specs.Step.{posted}
-use Rattle.desk.specs.Room.{Room, seatAt, shareAt, clinicAt, withClinic, freshDesk, emptyBoard}
-use Rattle.desk.specs.Call.{Call, enter, leave, choose, relax, options, example, turns, Answer, refused, accepted}
+use Rattle.desk.specs.Room.{Room, seatAt, shareAt, withClinic, freshDesk, emptyBoard}
+use Rattle.desk.specs.Call.{Call, enter, leave, choose, relax, options, example, turns, Answer, refused, plain}
 use Rattle.desk.specs.Turn.{served, isSome, afterTurns, turnsMade}
-use Rattle.desk.specs.Refusal.{boardAndCatalogue, refusal}
+use Rattle.desk.specs.Refusal.{openRefusal, refusal}
 
 -- a call's answer, with desk and board as it leaves them
 pub record Outcome : Type 0 where
@@ -19,7 +19,7 @@ pub record Outcome : Type 0 where
 
 -- clinic c alone is changed, and no turn is made
 abbrev pub changed : ℕ → Clinic → Room → Outcome
-changed c clinic room = record { answer = accepted; room = withClinic c (room .desk .next) clinic room }
+changed c clinic room = record { answer = plain; room = withClinic c (room .desk .next) clinic room }
 
 abbrev pub choicesOf : Room → ℕ → List ℕ
 choicesOf room c = seatAt (room .desk) c .choices
@@ -33,12 +33,16 @@ exampleAnswer bytes = record { number = 0; mask = 0; count = 0; bytes = bytes; m
 abbrev pub turnsAnswer : ℕ → Bool → Answer
 turnsAnswer made working = record { number = 0; mask = 0; count = 0; bytes = []; made = made; working = working }
 
+-- a choice set, or dropped where a is 255, and a job posted
+abbrev pub choiceSet : Catalogue → ℕ → ℕ → ℕ → Room → Outcome
+choiceSet catalogue c i a room = changed c (posted (catalogue .sizes) (set (choicesOf room c) i a)) room
+
 -- what an accepted call does: enter, choose and relax post a job, under the choices as they then are
 unfoldable pub done : Catalogue → Call → Room → Outcome
 done catalogue (enter c) room = changed c (posted (catalogue .sizes) (choicesOf room c)) room
 done catalogue (leave c) room = changed c closedClinic room
-done catalogue (choose c i a) room = changed c (posted (catalogue .sizes) (set (choicesOf room c) i a)) room
-done catalogue (relax c i) room = changed c (posted (catalogue .sizes) (set (choicesOf room c) i 255)) room
+done catalogue (choose c i a) room = choiceSet catalogue c i a room
+done catalogue (relax c i) room = choiceSet catalogue c i 255 room
 done catalogue (options c i) room = record { answer = optionsAnswer (getD (seatAt (room .desk) c .masks) i 0); room = room }
 done catalogue (example c i a) room = record { answer = exampleAnswer (exampleIn (shareAt (room .board) c) i a); room = room }
 done catalogue (turns w) room = record {
@@ -57,5 +61,5 @@ perform catalogue call room = unless (refusal catalogue call room) room (done ca
 -- Open takes no desk: a refused open hands back a fresh one, and the board as it came.
 unfoldable pub opening : Catalogue → List ℕ → Outcome
 opening catalogue board =
-    unless (boardAndCatalogue catalogue board) (record { desk = freshDesk; board = board })
-    (record { answer = accepted; room = record { desk = freshDesk; board = emptyBoard } })
+    unless (openRefusal catalogue board) (record { desk = freshDesk; board = board })
+    (record { answer = plain; room = record { desk = freshDesk; board = emptyBoard } })

@@ -5,12 +5,11 @@ use mathlib.Core.Bool.{Bool, not, _&&_}
 use mathlib.Core.List.{List, [], _∷_}
 use lib.ListN.{length, getD}
 use lib.Dec.{ltb, eqb}
-use Rattle.catalogue.specs.Catalogue.{Catalogue}
+use Rattle.catalogue.specs.Catalogue.{Catalogue, sizeOf}
 use Rattle.catalogue.specs.Checks.{when, first}
 use Rattle.catalogue.specs.Fault.{faultOf, member}
 use Rattle.seat.specs.declared.Seat.{Seat}
 use Rattle.seat.specs.Bits.{hasBit}
-use Rattle.seat.specs.Fit.{sizeOf}
 use Rattle.desk.specs.Room.{Room, seatAt}
 use Rattle.desk.specs.Fit.{deskFits}
 use Rattle.desk.specs.Call.{Call, enter, leave, choose, relax, options, example, turns, seatOf, featureOf, optionOf}
@@ -32,15 +31,20 @@ hasChoice seat i = not (eqb (getD (seat .choices) i 255) 255)
 abbrev pub isLeft : Seat → ℕ → ℕ → Bool
 isLeft seat i a = hasBit (getD (seat .masks) i 0) a
 
-unfoldable pub boardAndCatalogue : Catalogue → List ℕ → ℕ
-boardAndCatalogue catalogue board = first (when (not (eqb (length board) 32768)) 1 ∷ faultOf catalogue ∷ [])
+-- open makes checks 1 and 10 to 18 and nothing more
+abbrev pub openTable : Catalogue → List ℕ → List ℕ
+openTable catalogue board = when (not (eqb (length board) 32768)) 1 ∷ faultOf catalogue ∷ []
+
+unfoldable pub openRefusal : Catalogue → List ℕ → ℕ
+openRefusal catalogue board = first (openTable catalogue board)
 
 abbrev pub row : Call → ℕ → Bool → ℕ
 row call number condition = when (member number (rowsFor call) && condition) number
 
 abbrev pub table : Catalogue → Call → Room → Seat → List ℕ
 table catalogue call room seat =
-    boardAndCatalogue catalogue (room .board)
+    when (not (eqb (length (room .board)) 32768)) 1
+    ∷ faultOf catalogue
     ∷ when (not (deskFits catalogue (room .desk))) 20
     ∷ row call 30 (ltb 7 (seatOf call))
     ∷ row call 31 (isClosed (seat .state))

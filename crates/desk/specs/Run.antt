@@ -1,11 +1,12 @@
 -- A run: calls with arbitrary numbers, one after another, on a desk and board handed from call to call, all with one
 -- catalogue. A moment of a run is the end of a shorter one: turns(w) stops after u turns where turns(u) stops.
 use Prim.Native.Nat.{ℕ, _+_}
-use mathlib.Core.Bool.{Bool, true, false, cond, _&&_}
+use mathlib.Core.Bool.{Bool, false, cond, _&&_}
 use lib.Dec.{eqb}
 use mathlib.Core.List.{List, [], _∷_}
 use Rattle.catalogue.specs.Catalogue.{Catalogue}
-use Rattle.desk.specs.Room.{Room, seatAt}
+use Rattle.seat.specs.Clinic.{Clinic}
+use Rattle.desk.specs.Room.{Room, clinicAt}
 use Rattle.desk.specs.Call.{Call, enter, leave, choose, relax, options, example, turns, Answer, isOf}
 use Rattle.desk.specs.Turn.{stepsGiven}
 use Rattle.desk.specs.Perform.{perform}
@@ -76,21 +77,21 @@ leavesFor c (options d i) = false
 leavesFor c (example d i a) = false
 leavesFor c (turns w) = false
 
--- What a seat has come through: it is closed; or a job was posted, under some choices, and it was given so many steps
+-- What a seat has come through: it is closed; or its last posting left it as `start`, and it was given so many steps
 -- since.
 pub data Since : Type 0 where
   closed : Since
-  job : (choices : List ℕ) (given : ℕ) → Since
+  job : (start : Clinic) (given : ℕ) → Since
 
 abbrev pub moreSteps : ℕ → Since → Since
 moreSteps n closed = closed
-moreSteps n (job choices given) = job choices (given + n)
+moreSteps n (job start given) = job start (given + n)
 
 -- an accepted call that posts begins anew, an accepted leave ends, any other call adds the steps that it gives
 abbrev pub sinceCall : Catalogue → ℕ → Call → Room → Since → Since
 sinceCall catalogue c call room before =
     cond (postsFor c call && eqb (perform catalogue call room .answer .number) 0)
-    (job (seatAt (perform catalogue call room .room .desk) c .choices) 0)
+    (job (clinicAt (perform catalogue call room .room) c) 0)
     (cond (leavesFor c call && eqb (perform catalogue call room .answer .number) 0) closed
     (moreSteps (given catalogue c call room) before))
 

@@ -1,6 +1,6 @@
 -- Each statement of specs/ is about something: on the trolley its premises hold, by computation, and what it then says is
 -- a plain fact about a run that can be made. None of these proves a demand; each takes one and puts it to use.
-use Prim.Native.Nat.{ℕ, zero, suc, _<_}
+use Prim.Native.Nat.{ℕ, zero, suc, _*_, _≤_, _<_}
 use mathlib.Core.Path.{_≡_, refl}
 use mathlib.Core.Logic.{_↔_}
 use mathlib.Core.Bool.{true}
@@ -8,7 +8,7 @@ use mathlib.Core.List.{List, [], _∷_, _++_}
 use native.Mathlib.Nat.{le-of-suc-le-suc, not-suc-le-zero}
 use native.Mathlib.Omega.{arith}
 use lib.ListN.{length, getD, replicate}
-use lib.Dec.{lit<, lit≤}
+use lib.Dec.{lit<}
 use Rattle.catalogue.specs.Every.{none, also}
 use Rattle.catalogue.specs.Rule.{optionAt}
 use Rattle.catalogue.specs.Build.{IsBuild, BuildWith}
@@ -41,7 +41,7 @@ opens = refl
 -- Demand 1: there is no seat 9.
 refusals : Refusals → perform trolley (enter 9) (moment trolley board []) .answer .number ≡ 30
 unfolding board computing moment
-refusals demand = demand .by-the-table trolley (enter 9) (moment trolley board []) 30 .1 (next (next (this (λ e. omega arith))))
+refusals demand = demand .by-the-table trolley (enter 9) (moment trolley board []) 30 .1 (next (next (next (this (λ e. omega arith)))))
 
 -- Demand 2: 100 is a build, so that option 1 of feature 0 is left once seat 0 is ready.
 ready : List Call
@@ -87,21 +87,22 @@ options-left demand =
 seven : List Call
 seven = enter 0 ∷ enter 1 ∷ enter 2 ∷ enter 3 ∷ enter 4 ∷ enter 5 ∷ enter 6 ∷ []
 
-waiting : Waiting → seatIn (moment trolley board (seven ++ enter 7 ∷ turns 312 ∷ [])) 7 .state ≡ Ready
+waiting : Waiting → (K : ℕ) × (8 * K ≤ 312 → seatIn (moment trolley board (seven ++ enter 7 ∷ turns 312 ∷ [])) 7 .state ≡ Ready)
 unfolding board seven computing moment
-waiting demand = demand trolley board opens seven (enter 7) (turns 312 ∷ []) 7 (lit< tt) refl refl (also refl none) (lit≤ tt)
+waiting demand =
+    let waits = demand trolley board opens seven (enter 7) 7 (lit< tt) refl refl in
+    (waits .K, waits .ready-in-time (turns 312 ∷ []) (also refl none))
 
 -- After five turns seat 3 stands where the written search stands after five steps.
 begun : List Call
 begun = enter 3 ∷ turns 5 ∷ []
 
-in-a-search : {clinic : Clinic} {choices : List ℕ} {given : ℕ} → Stands trolley clinic (job choices given)
-    → clinic ≡ steps trolley given (posted (trolley .sizes) choices)
-in-a-search (searching same few ready) = same
+in-a-search : {clinic start : Clinic} {given : ℕ} → Stands trolley clinic (job start given) → clinic ≡ steps trolley given start
+in-a-search (searching K same takes few ready) = same
 
 search-state : SearchState → clinicAt (moment trolley board begun) 3 ≡ steps trolley 5 (posted (trolley .sizes) nothing16)
 unfolding board begun computing moment
-search-state demand = in-a-search {given = 5} (demand trolley board opens begun 3 (lit< tt))
+search-state demand = in-a-search {start = posted (trolley .sizes) nothing16} {given = 5} (demand trolley board opens begun 3 (lit< tt))
 
 -- Seat 3 alone, and seat 3 beside seat 5: the same calls, five steps after them.
 beside : List Call

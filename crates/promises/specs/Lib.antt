@@ -6,3 +6,4 @@ pub mod Waiting
 pub mod SearchState
 pub mod TwoRuns
 pub mod InARun
+pub mod Frame

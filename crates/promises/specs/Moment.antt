@@ -1,7 +1,7 @@
 -- A moment: a desk and board opened together and handed only from call to call, to no new opening, with one catalogue
 -- throughout. The calls are any calls with any numbers, refused ones among them. A moment within turns(w) is the end of
 -- a run whose last call asks for fewer turns.
-use Prim.Native.Nat.{ℕ, _<_}
+use Prim.Native.Nat.{ℕ}
 use mathlib.Core.Path.{_≡_}
 use mathlib.Core.List.{List}
 use Rattle.catalogue.specs.Catalogue.{Catalogue}

@@ -6,15 +6,15 @@ use mathlib.Core.Path.{_≡_}
 use mathlib.Core.Logic.{_↔_}
 use mathlib.Core.Bool.{true}
 use mathlib.Core.List.{List}
-use lib.ListN.{length, getD, replicate}
-use Rattle.catalogue.specs.Catalogue.{Catalogue}
+use lib.ListN.{length, replicate}
+use Rattle.catalogue.specs.Catalogue.{Catalogue, sizeOf}
 use Rattle.catalogue.specs.Build.{BuildWith, FirstWith, padded}
 use Rattle.seat.specs.declared.State.the-variants.{Ready}
-use Rattle.seat.specs.Bits.{hasBit, bitCount}
+use Rattle.seat.specs.Bits.{hasBit}
 use Rattle.seat.specs.Clinic.{exampleIn}
 use Rattle.desk.specs.Room.{Room, shareAt}
-use Rattle.desk.specs.Call.{Call, options, example, Answer, refused}
-use Rattle.desk.specs.Perform.{Outcome, perform, optionsAnswer, exampleAnswer}
+use Rattle.desk.specs.Call.{Call, options, example, refused}
+use Rattle.desk.specs.Perform.{perform, optionsAnswer, exampleAnswer}
 use Rattle.promises.specs.Moment.{moment, seatIn}
 
 -- what seat c is shown of feature i, through the answers of the options and example calls
@@ -26,7 +26,7 @@ pub record Shown (catalogue : Catalogue) (room : Room) (c i : ℕ) : Type 0 wher
   pub first-beside : (a : ℕ) → hasBit mask a ≡ true
       → (build : List ℕ) × FirstWith catalogue (seatIn room c .choices) i a build
       × (perform catalogue (example c i a) room .answer ≡ exampleAnswer (padded build))
-  pub none-beside : (a : ℕ) → a < getD (catalogue .sizes) i 0 → (hasBit mask a ≡ true → ⊥)
+  pub none-beside : (a : ℕ) → a < sizeOf catalogue i → (hasBit mask a ≡ true → ⊥)
       → (perform catalogue (example c i a) room .answer ≡ refused 37)
       × (exampleIn (shareAt (room .board) c) i a ≡ replicate 16 255)
 

@@ -12,7 +12,7 @@ use Rattle.catalogue.specs.Format.{Accepted}
 use Rattle.catalogue.specs.Fault.{faultOf}
 use Rattle.desk.specs.Room.{Room, freshDesk}
 use Rattle.desk.specs.Call.{Call, refused, seatOf}
-use Rattle.desk.specs.Refusal.{table, boardAndCatalogue}
+use Rattle.desk.specs.Refusal.{table, openTable}
 use Rattle.desk.specs.Perform.{perform, opening}
 use Rattle.promises.specs.Moment.{seatIn}
 
@@ -33,7 +33,7 @@ pub record Refusals : Type 0 where
       → perform catalogue call room ≡ record { answer = refused r; room = room }
   -- open makes the checks of board and catalogue and nothing more; refused, it hands back a fresh desk
   pub open-by-the-table : (catalogue : Catalogue) (board : List ℕ) (r : ℕ)
-      → (opening catalogue board .answer .number ≡ r) ↔ Gives (boardAndCatalogue catalogue board ∷ []) r
+      → (opening catalogue board .answer .number ≡ r) ↔ Gives (openTable catalogue board) r
   pub open-changes-nothing : (catalogue : Catalogue) (board : List ℕ) (r : ℕ)
       → opening catalogue board .answer .number ≡ r → (r ≡ 0 → ⊥)
       → opening catalogue board ≡ record { answer = refused r; room = record { desk = freshDesk; board = board } }

@@ -1,6 +1,6 @@
 -- Demand 3, state. After each turn a seat's record and board share are those of the written search after the steps it was
--- given: the search that its last posting began, under the choices of that posting. It is ready exactly when those are
--- all the steps of its job. A seat that is closed is blank.
+-- given since its last posting. It is ready exactly when those are all the K steps of its job. A seat that is closed is
+-- blank.
 use Prim.Native.Nat.{ℕ, _≤_, _<_}
 use mathlib.Core.Path.{_≡_}
 use mathlib.Core.Logic.{_↔_}
@@ -8,22 +8,22 @@ use mathlib.Core.List.{List}
 use Rattle.catalogue.specs.Catalogue.{Catalogue}
 use Rattle.seat.specs.declared.State.the-variants.{Ready}
 use Rattle.seat.specs.Clinic.{Clinic, closedClinic}
-use Rattle.seat.specs.Step.{steps, posted}
-use Rattle.seat.specs.Count.{jobSteps}
+use Rattle.seat.specs.Step.{steps, ReadyAfter}
 use Rattle.desk.specs.Room.{clinicAt}
 use Rattle.desk.specs.Call.{Call}
 use Rattle.desk.specs.Perform.{opening}
 use Rattle.desk.specs.Run.{Since, closed, job, since}
 use Rattle.promises.specs.Moment.{moment, Opened}
 
--- a clinic's record and share, by what has happened to its seat
+-- a clinic's record and share, by what its seat has come through
 pub data Stands (catalogue : Catalogue) (clinic : Clinic) : Since → Type 0 where
   blank : clinic ≡ closedClinic → Stands catalogue clinic closed
-  searching : {choices : List ℕ} {given : ℕ}
-      → clinic ≡ steps catalogue given (posted (catalogue .sizes) choices)
-      → given ≤ jobSteps catalogue choices
-      → ((clinic .seat .state ≡ Ready) ↔ (given ≡ jobSteps catalogue choices))
-      → Stands catalogue clinic (job choices given)
+  searching : {start : Clinic} {given : ℕ} (K : ℕ)
+      → clinic ≡ steps catalogue given start
+      → ReadyAfter catalogue start K
+      → given ≤ K
+      → ((clinic .seat .state ≡ Ready) ↔ (given ≡ K))
+      → Stands catalogue clinic (job start given)
 
 abbrev pub SearchState : Type 0
 SearchState =

@@ -1,6 +1,6 @@
 -- Demand 3, waiting. A seat whose job takes K steps of the written search is ready at most 8×K turns after the job was
--- posted, if its own clinic makes no call meanwhile, however busy the others are. The turns that are asked for are
--- enough: fewer are made only where no seat is at work.
+-- posted, if its own clinic makes no call meanwhile, however busy the others are. Every job takes some K. The turns that
+-- are asked for are enough: fewer are made only where no seat is at work.
 use Prim.Native.Nat.{ℕ, _*_, _≤_, _<_}
 use mathlib.Core.Path.{_≡_}
 use mathlib.Core.Bool.{true, false}
@@ -8,18 +8,23 @@ use mathlib.Core.List.{List, [], _∷_, _++_}
 use Rattle.catalogue.specs.Every.{Every}
 use Rattle.catalogue.specs.Catalogue.{Catalogue}
 use Rattle.seat.specs.declared.State.the-variants.{Ready}
-use Rattle.seat.specs.Count.{jobSteps}
+use Rattle.seat.specs.Step.{ReadyAfter}
+use Rattle.desk.specs.Room.{clinicAt}
 use Rattle.desk.specs.Call.{Call, isOf}
 use Rattle.desk.specs.Perform.{perform}
 use Rattle.desk.specs.Run.{allTurnsAsked, postsFor}
 use Rattle.promises.specs.Moment.{moment, Opened, seatIn}
 
+-- a job posted for seat c at some moment of a run, and what then holds
+pub record Waits (catalogue : Catalogue) (board : List ℕ) (before : List Call) (post : Call) (c : ℕ) : Type 0 where
+  pub K : ℕ
+  pub takes-K : ReadyAfter catalogue (clinicAt (moment catalogue board (before ++ post ∷ [])) c) K
+  pub ready-in-time : (after : List Call) → Every (λ (call : Call). isOf c call ≡ false) after → 8 * K ≤ allTurnsAsked after
+      → seatIn (moment catalogue board (before ++ post ∷ after)) c .state ≡ Ready
+
 abbrev pub Waiting : Type 0
 Waiting =
     (catalogue : Catalogue) (board : List ℕ) → Opened catalogue board
-    → (before : List Call) (post : Call) (after : List Call) (c : ℕ) → c < 8
-    → postsFor c post ≡ true
-    → perform catalogue post (moment catalogue board before) .answer .number ≡ 0
-    → Every (λ (call : Call). isOf c call ≡ false) after
-    → 8 * jobSteps catalogue (seatIn (moment catalogue board (before ++ post ∷ [])) c .choices) ≤ allTurnsAsked after
-    → seatIn (moment catalogue board (before ++ post ∷ after)) c .state ≡ Ready
+    → (before : List Call) (post : Call) (c : ℕ) → c < 8
+    → postsFor c post ≡ true → perform catalogue post (moment catalogue board before) .answer .number ≡ 0
+    → Waits catalogue board before post c

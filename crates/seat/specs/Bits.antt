@@ -4,7 +4,7 @@ use mathlib.Core.Bool.{Bool, cond}
 use lib.Dec.{eqb}
 
 abbrev pub hasBit : ℕ → ℕ → Bool
-hasBit mask a = eqb (mask / 2 ^ a % 2) 1
+hasBit mask a = eqb ((mask / 2 ^ a) % 2) 1
 
 unfoldable pub withBit : ℕ → ℕ → ℕ
 withBit mask a = cond (hasBit mask a) mask (mask + 2 ^ a)

@@ -1,5 +1,5 @@
--- K, the number of steps of the written search for a job: one for each option tried, one for each pair that rule 1 ends.
--- A number of this definition; nothing stores it. That the steps of `Step` take a job to its end in just K is a theorem.
+-- K as a sum over the pairs of a job, one for each option tried and one for each pair that rule 1 ends: what P6 and P8
+-- count. That the steps of `Step` bring a posted job to readiness in just so many is a theorem.
 use Prim.Native.Nat.{ℕ, zero, suc, _+_}
 use mathlib.Core.Bool.{Bool, cond}
 use mathlib.Core.Option.{Option, none, some}

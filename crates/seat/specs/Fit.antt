@@ -1,10 +1,9 @@
 -- Number 20, as far as it speaks of one seat: when a record fits the catalogue.
 use Prim.Native.Nat.{ℕ, zero, suc, _^_}
-use mathlib.Core.Bool.{Bool, true, false, cond, not, _&&_, _||_}
-use mathlib.Core.List.{List}
+use mathlib.Core.Bool.{Bool, true, cond, _&&_, _||_}
 use lib.ListN.{length, getD}
 use lib.Dec.{ltb, eqb}
-use Rattle.catalogue.specs.Catalogue.{Catalogue}
+use Rattle.catalogue.specs.Catalogue.{Catalogue, sizeOf}
 use Rattle.seat.specs.declared.Seat.{Seat}
 use Rattle.seat.specs.declared.Place.{Place}
 use Rattle.seat.specs.declared.State.{State}
@@ -14,10 +13,6 @@ use Rattle.seat.specs.declared.State.the-variants.{Closed, Ready, AtWork
 unfoldable pub everyBelow : ℕ → (ℕ → Bool) → Bool
 everyBelow zero test = true
 everyBelow (suc n) test = everyBelow n test && test n
-
--- 0 for a missing feature, so that it has no option
-abbrev pub sizeOf : Catalogue → ℕ → ℕ
-sizeOf catalogue f = getD (catalogue .sizes) f 0
 
 -- a choice is 255 or an option of its feature
 abbrev pub choiceFits : Catalogue → Seat → ℕ → Bool

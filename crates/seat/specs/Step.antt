@@ -1,13 +1,13 @@
 -- The written search, a step at a time, and posting a job for it.
-use Prim.Native.Nat.{ℕ, zero, suc, _+_}
-use mathlib.Core.Bool.{Bool, cond}
+use Prim.Native.Nat.{ℕ, zero, suc, _+_, _<_}
+use mathlib.Core.Path.{_≡_}
+use mathlib.Core.Bool.{cond}
 use mathlib.Core.List.{List}
 use mathlib.Core.Option.{Option, none, some}
 use lib.ListN.{length, getD, set}
 use lib.Dec.{ltb, eqb}
 use Rattle.catalogue.specs.Catalogue.{Catalogue, rulesOf}
 use Rattle.catalogue.specs.Rule.{passes}
-use Rattle.seat.specs.declared.Seat.{Seat}
 use Rattle.seat.specs.declared.Place.{Place}
 use Rattle.seat.specs.declared.State.{State}
 use Rattle.seat.specs.declared.State.the-variants.{Closed, Ready, AtWork}
@@ -91,3 +91,8 @@ posted sizes choices = record {
   seat = record { state = started sizes choices 0 0; choices = choices; masks = noneLeft; trial = nothing16 };
   share = emptyShare;
 }
+
+-- K, for a job as its posting left record and share: after K steps the seat is ready, and after fewer it is at work.
+pub record ReadyAfter (catalogue : Catalogue) (start : Clinic) (k : ℕ) : Type 0 where
+  pub ready : steps catalogue k start .seat .state ≡ Ready
+  pub at-work : (n : ℕ) → n < k → (p : Place) × (steps catalogue n start .seat .state ≡ AtWork p)

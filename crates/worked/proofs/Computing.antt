@@ -12,13 +12,13 @@ use Rattle.seat.specs.Fit.{everyBelow, seatFits}
 use Rattle.desk.specs.Room.{shareAt, withClinic}
 use Rattle.desk.specs.Fit.{deskFits}
 use Rattle.desk.specs.Turn.{atWorkFrom, turn, afterTurns, turnsMade, stepsGiven}
-use Rattle.desk.specs.Refusal.{boardAndCatalogue, refusal}
+use Rattle.desk.specs.Refusal.{openRefusal, refusal}
 use Rattle.desk.specs.Perform.{done, perform, opening}
 use Rattle.desk.specs.Run.{afterCalls, allTurnsAsked, stepsFirst, side, since}
 use Rattle.worked.specs.Trolley.{trolley, allUnequal, single}
-use Rattle.worked.specs.Worked.{jobAfter, masksOf, exampleOf, bytes16, stateNumber, stateOf, lengths, cases}
+use Rattle.worked.specs.Worked.{jobAfter, masksOf, exampleOf, bytes16, stateNumber, stateOf, lengths, support, supports, cases}
 use Rattle.worked.specs.WorkedRuns.{after, states, statesAlong, allEnter, eightSeats, eightSeatsExpected, entered, chosen, listing, stateAndMasks, listed, listedExpected, numberAfter, numbers, numbersExpected}
 
 unfoldable pub computing : Unit {0}
-unfolding optionsAt matches someRow satisfies satisfiesAll highest rulesAt passes rowsRead ruleRead rulesRead rulesOf countFrom inFront instantiations keepsChoices keep builds sizesFault member featuresFault rowFits rowsFault ruleFault rulesFault faultOf withBit bitsBelow withExample put candidates firstCandidate firstAbove givenUp tried afterPair pairEnded afterTried stepAt stepIn step steps posted searchEach searchFrom pairSearch pairsFrom pairCounts sum jobSteps everyBelow seatFits shareAt withClinic deskFits atWorkFrom turn afterTurns turnsMade stepsGiven boardAndCatalogue refusal done perform opening afterCalls allTurnsAsked stepsFirst side since trolley allUnequal single jobAfter masksOf exampleOf bytes16 stateNumber stateOf lengths cases after states statesAlong allEnter eightSeats eightSeatsExpected entered chosen listing stateAndMasks listed listedExpected numberAfter numbers numbersExpected
+unfolding optionsAt matches someRow satisfies satisfiesAll highest rulesAt passes rowsRead ruleRead rulesRead rulesOf countFrom inFront instantiations keepsChoices keep builds sizesFault member featuresFault rowFits rowsFault ruleFault rulesFault faultOf withBit bitsBelow withExample put candidates firstCandidate firstAbove givenUp tried afterPair pairEnded afterTried stepAt stepIn step steps posted searchEach searchFrom pairSearch pairsFrom pairCounts sum jobSteps everyBelow seatFits shareAt withClinic deskFits atWorkFrom turn afterTurns turnsMade stepsGiven openRefusal refusal done perform opening afterCalls allTurnsAsked stepsFirst side since trolley allUnequal single jobAfter masksOf exampleOf bytes16 stateNumber stateOf lengths support supports cases after states statesAlong allEnter eightSeats eightSeatsExpected entered chosen listing stateAndMasks listed listedExpected numberAfter numbers numbersExpected
 computing = tt

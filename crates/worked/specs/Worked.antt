@@ -1,8 +1,11 @@
 -- The worked cases P1 to P10, one list: what the definitions give, and what the paper says. The claim that they agree
 -- is one line, proofs/Worked.antt.
-use Prim.Native.Nat.{ℕ}
-use mathlib.Core.List.{List, [], _∷_, _++_, map}
-use lib.ListN.{take, replicate}
+use Prim.Native.Nat.{ℕ, _+_}
+use mathlib.Core.Bool.{cond}
+use mathlib.Core.List.{List, [], _∷_, map}
+use lib.ListN.{getD, take, replicate}
+use lib.Dec.{eqb}
+use Rattle.catalogue.specs.Rule.{Rule}
 use Rattle.catalogue.specs.Catalogue.{Catalogue, rulesOf}
 use Rattle.catalogue.specs.Builds.{builds}
 use Rattle.seat.specs.declared.State.{State}
@@ -47,6 +50,15 @@ lengths catalogue choices oneLess k =
     pairCounts catalogue choices ∷ (jobSteps catalogue choices ∷ [])
     ∷ stateOf (jobAfter catalogue choices oneLess) ∷ stateOf (jobAfter catalogue choices k) ∷ []
 
+-- the rows of a rule that have an option at a place: its support there
+unfoldable pub support : ℕ → ℕ → List (List ℕ) → ℕ
+support place option [] = 0
+support place option (row ∷ rows) = cond (eqb (getD row place 255) option) 1 0 + support place option rows
+
+-- the support of each of two options at each of two features
+unfoldable pub supports : Rule → List ℕ
+supports rule = support 0 0 (rule .rows) ∷ support 0 1 (rule .rows) ∷ support 1 0 (rule .rows) ∷ support 1 1 (rule .rows) ∷ []
+
 unfoldable pub cases : List Case
 cases =
     record {
@@ -72,8 +84,9 @@ cases =
     ∷ record {
       number = 9;
       given = masksOf 3 (jobAfter allUnequal noChoices (jobSteps allUnequal noChoices))
-          ∷ stateOf (jobAfter allUnequal noChoices (jobSteps allUnequal noChoices)) ∷ [];
-      expected = (0 ∷ 0 ∷ 0 ∷ []) ∷ (1 ∷ []) ∷ [];
+          ∷ stateOf (jobAfter allUnequal noChoices (jobSteps allUnequal noChoices))
+          ∷ map supports (rulesOf allUnequal);
+      expected = (0 ∷ 0 ∷ 0 ∷ []) ∷ (1 ∷ []) ∷ (1 ∷ 1 ∷ 1 ∷ 1 ∷ []) ∷ (1 ∷ 1 ∷ 1 ∷ 1 ∷ []) ∷ (1 ∷ 1 ∷ 1 ∷ 1 ∷ []) ∷ [];
     }
     ∷ record {
       number = 10;

@@ -7,7 +7,7 @@ use native.Mathlib.Omega.{arith}
 use lib.ListN.{length, take, drop, length-append, length-drop, take-append-drop}
 use lib.Seq.{length-take-le, take-at, drop-at, drop-drop}
 use Rattle.catalogue.specs.Rule.{Rule}
-use Rattle.catalogue.specs.Catalogue.{arity, rowCount, headerEnd, width, featuresRead, rowsRead, ruleRead}
+use Rattle.catalogue.specs.Catalogue.{arity, rowCount, rowsBegin, width, featuresRead, rowsRead, ruleRead}
 use Rattle.catalogue.specs.Fault.{ruleFault}
 use Rattle.catalogue.specs.Every.{Every}
 use Rattle.catalogue.specs.Format.{joined, ruleWritten, WellFormed}
@@ -27,8 +27,8 @@ rule-read sizes list h =
     let p = ruleFault-passed sizes list h in
     let n = features-length sizes list p in
     let fs = features-read (length sizes) [] (featuresRead list) (p .features-fit) in
-    let body = drop (headerEnd list) list in
-    let space : length (featuresRead list) * rowCount list ≤ length body = rw n (omega (arith, length-drop (headerEnd list) list, p)) in
+    let body = drop (rowsBegin list) list in
+    let space : length (featuresRead list) * rowCount list ≤ length body = rw n (omega (arith, length-drop (rowsBegin list) list, p)) in
     record {
       arity-low = rw n (p .arity-low);
       arity-high = rw n (p .arity-high);
@@ -68,7 +68,7 @@ module _ (rule : Rule) (rest : List ℕ) where
   features-back =
       rw append-assoc (take-at (rule .features) (joined (rule .rows) ++ rest) (length (rule .features)) refl)
 
-  body-back : drop (headerEnd (ruleWritten rule ++ rest)) (ruleWritten rule ++ rest) ≡ joined (rule .rows) ++ rest
+  body-back : drop (rowsBegin (ruleWritten rule ++ rest)) (ruleWritten rule ++ rest) ≡ joined (rule .rows) ++ rest
   unfolding ruleWritten
   body-back =
       rw (
@@ -97,7 +97,7 @@ module _ (rule : Rule) (rest : List ℕ) where
     rest-back =
         let list = ruleWritten rule ++ rest in
         rw (
-          ← drop-drop (arity list * rowCount list) (headerEnd list) list,
+          ← drop-drop (arity list * rowCount list) (rowsBegin list) list,
           body-back,
           arity-back,
           count-back,

@@ -6,7 +6,7 @@ use native.Mathlib.Omega.{arith}
 use borrow.Author.Needs.{needs}
 use borrow.Author.Tests.{lt-ltb, le-ltb, le-leb, lt-leb}
 use lib.ListN.{length, take, drop, length-take, length-drop}
-use Rattle.catalogue.specs.Catalogue.{arity, rowCount, headerEnd, featuresRead}
+use Rattle.catalogue.specs.Catalogue.{arity, rowCount, rowsBegin, featuresRead}
 use Rattle.catalogue.specs.Fault.{ruleFault, featuresFault, rowsFault}
 use Rattle.catalogue.proofs.Alone.{rows-alone}
 use Rattle.catalogue.proofs.Steps.{first-row, last-row}
@@ -54,7 +54,7 @@ module _ (sizes list : List ℕ) where
         )
         (first-row (featuresFault (length sizes) [] (featuresRead list)) _ some)
 
-    no-rows : featuresFault (length sizes) [] (featuresRead list) ≡ 0 → length list - headerEnd list < arity list * rowCount list
+    no-rows : featuresFault (length sizes) [] (featuresRead list) ≡ 0 → length list - rowsBegin list < arity list * rowCount list
         → ruleFault sizes list ≡ 14
     unfolding ruleFault
     no-rows none short =
@@ -64,11 +64,11 @@ module _ (sizes list : List ℕ) where
           le-leb (arity list) 6 (can .high),
           le-ltb (length list - 2) (arity list) (can .room),
           none,
-          lt-ltb (length list - headerEnd list) (arity list * rowCount list) short,
+          lt-ltb (length list - rowsBegin list) (arity list * rowCount list) short,
         )
 
-    rows-left : featuresFault (length sizes) [] (featuresRead list) ≡ 0 → arity list * rowCount list ≤ length list - headerEnd list
-        → ruleFault sizes list ≡ rowsFault sizes (featuresRead list) (rowCount list) (drop (headerEnd list) list)
+    rows-left : featuresFault (length sizes) [] (featuresRead list) ≡ 0 → arity list * rowCount list ≤ length list - rowsBegin list
+        → ruleFault sizes list ≡ rowsFault sizes (featuresRead list) (rowCount list) (drop (rowsBegin list) list)
     unfolding ruleFault
     rows-left none whole =
         rw (
@@ -77,7 +77,7 @@ module _ (sizes list : List ℕ) where
           le-leb (arity list) 6 (can .high),
           le-ltb (length list - 2) (arity list) (can .room),
           none,
-          le-ltb (length list - headerEnd list) (arity list * rowCount list) whole,
+          le-ltb (length list - rowsBegin list) (arity list * rowCount list) whole,
           last-row,
         )
 
@@ -87,7 +87,7 @@ features-length list k room = simp (length-take, length-drop) (omega arith)
 -- the rows cut out, with the features cut out, read as the definition reads them
 rows-read : (sizes list : List ℕ) (k m n r : ℕ) → k ≡ arity list → m ≡ rowCount list → k ≤ length list - 2 → k * m ≤ n
     → r ≡ rowsFault sizes (take (2 + k - 2) (drop 2 list)) m (take n (drop (2 + k) list))
-    → r ≡ rowsFault sizes (featuresRead list) (rowCount list) (drop (headerEnd list) list)
+    → r ≡ rowsFault sizes (featuresRead list) (rowCount list) (drop (rowsBegin list) list)
 rows-read sizes list k m n r is-arity is-count room fits answer =
     let cut : 2 + k - 2 ≡ k = omega arith in
     answer
@@ -124,7 +124,7 @@ features-are c =
 rows-whole : (c : tie.Else6)
     → ruleFault (sizes-at (c .before .before .before .before .before .before .before)) (list-at (c .before .before .before .before .before .before .before))
     ≡ rowsFault (sizes-at (c .before .before .before .before .before .before .before)) (featuresRead (list-at (c .before .before .before .before .before .before .before)))
-    (rowCount (list-at (c .before .before .before .before .before .before .before))) (drop (headerEnd (list-at (c .before .before .before .before .before .before .before))) (list-at (c .before .before .before .before .before .before .before)))
+    (rowCount (list-at (c .before .before .before .before .before .before .before))) (drop (rowsBegin (list-at (c .before .before .before .before .before .before .before))) (list-at (c .before .before .before .before .before .before .before)))
 rows-whole c =
     let header = c .before .before .before .before .before .before .before in
     rows-left (sizes-at header) (list-at header) (readable (c .before .before .before .before)) (features-are (c .before .before) ∙ c .before .if5 .left)

@@ -1,0 +1,34 @@
+-- No call made for a seat writes outside that seat's share, and each step changes one seat's record and no other part of
+-- the desk but next. On any desk and board, in a run or not.
+use Prim.Native.Nat.{ℕ, _+_, _<_}
+use mathlib.Core.Path.{_≡_}
+use mathlib.Core.Bool.{false}
+use mathlib.Core.Option.{some}
+use mathlib.Core.List.{[]}
+use lib.ListN.{length}
+use Rattle.catalogue.specs.Catalogue.{Catalogue}
+use Rattle.seat.specs.Step.{step}
+use Rattle.desk.specs.Room.{Room, clinicAt}
+use Rattle.desk.specs.Call.{Call, turns, isOf, numbersOf}
+use Rattle.desk.specs.Turn.{served, seatAfter, turn}
+use Rattle.desk.specs.Perform.{perform}
+
+-- a desk has eight seats and the board its length
+pub record Whole (room : Room) : Type 0 where
+  pub eight : length (room .desk .seats) ≡ 8
+  pub board-length : length (room .board) ≡ 32768
+
+pub record Frame : Type 0 where
+  -- a call for a seat leaves every other clinic's record and share alone, and next
+  pub calls-stay : (catalogue : Catalogue) (call : Call) (room : Room) → Whole room
+      → (numbersOf call ≡ [] → ⊥) → (d : ℕ) → d < 8 → isOf d call ≡ false
+      → (clinicAt (perform catalogue call room .room) d ≡ clinicAt room d)
+      × (perform catalogue call room .room .desk .next ≡ room .desk .next)
+  -- a turn gives the seat that it serves one step, leaves every other clinic alone, and moves next to the seat after it
+  pub turns-stay : (catalogue : Catalogue) (room : Room) → Whole room → (c : ℕ) → c < 8 → served (room .desk) ≡ some c
+      → (clinicAt (turn catalogue room) c ≡ step catalogue (clinicAt room c))
+      × ((d : ℕ) → d < 8 → (d ≡ c → ⊥) → clinicAt (turn catalogue room) d ≡ clinicAt room d)
+      × (turn catalogue room .desk .next ≡ seatAfter c)
+  -- turns(u + v) is turns(u), then turns(v)
+  pub turns-add : (catalogue : Catalogue) (room : Room) → Whole room → (u v : ℕ)
+      → (perform catalogue (turns (u + v)) room .room ≡ perform catalogue (turns v) (perform catalogue (turns u) room .room) .room)
