@@ -9,6 +9,7 @@ pub mod Inversion
 pub mod Faultless
 pub mod PlacedSteps
 pub mod Starts
+pub mod AllStarts
 pub mod Format
 pub mod RulesByFeature
 pub mod Options

@@ -1,9 +1,10 @@
 -- Where the rules begin that are tested at a feature. What the inner functions say of a rule list that was checked;
 -- no promise cites this file.
-use Prim.Native.Nat.{ℕ, zero, suc, _+_}
+use Prim.Native.Nat.{ℕ, zero, suc, _+_, _*_, _≤_, _<_}
+use mathlib.Core.Path.{_≡_}
 use mathlib.Core.Bool.{Bool, cond, _&&_, _||_}
 use mathlib.Core.List.{List, [], _∷_}
-use lib.ListN.{length, drop}
+use lib.ListN.{length, getD, take, drop}
 use lib.Dec.{leb, eqb}
 use Rattle.catalogue.specs.Rule.{Rule, highest}
 use Rattle.catalogue.specs.Catalogue.{arity, width, featuresRead, isEmpty, ruleRead}
@@ -33,3 +34,10 @@ startsAt list j = startsFrom 64 list 0 j
 unfoldable pub rulesFrom : List ℕ → List ℕ → List Rule
 rulesFrom list [] = []
 rulesFrom list (place ∷ places) = ruleRead (drop place list) ∷ rulesFrom list places
+
+-- 64 numbers for each of 16 features: where the rules begin that are tested there, and how many there are
+pub record AllStarts (rules places counts : List ℕ) : Type 0 where
+  pub room : length places ≡ 1024
+  pub each : length counts ≡ 16
+  pub few : (j : ℕ) → j < 16 → getD counts j 0 ≤ 64
+  pub are-starts : (j : ℕ) → j < 16 → take (getD counts j 0) (drop (j * 64) places) ≡ startsAt rules j

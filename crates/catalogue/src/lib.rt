@@ -2,11 +2,13 @@
 //
 // `fault` reads both from the front and answers the number of the fault met first, 0 for none.
 // The other functions are for a list that has no fault: `starts_at` finds the rules that are tested at a feature,
-// and `passes` tests what is placed against them.
+// `starts_of` those of all features, and `passes` tests what is placed against them.
 mod faults;
 mod numbers;
 mod placed;
 
 pub use faults::fault;
+pub use placed::Starts;
 pub use placed::passes;
 pub use placed::starts_at;
+pub use placed::starts_of;

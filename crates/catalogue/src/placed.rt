@@ -7,7 +7,7 @@ ghost use Prim.Native.Nat.{_≤_, _*_};
 ghost use lib.ListN.{length, take};
 ghost use Rattle.catalogue.specs.Rule.{highest, matches, someRow, optionAt, optionsAt, satisfies, passes};
 ghost use Rattle.catalogue.specs.Catalogue.{rowsRead, ruleRead, rulesRead};
-ghost use Rattle.catalogue.specs.Starts.{wholeRule, wholeRules, startsAt};
+ghost use Rattle.catalogue.specs.Starts.{wholeRule, wholeRules, startsAt, AllStarts};
 
 // Whether what is placed passes the test at feature j: it satisfies each rule whose highest-numbered feature is j.
 pub fn passes(rules: &[u16], j: usize, starts: &[u16], placed: &[u8]) -> bool
@@ -46,6 +46,29 @@ pub fn starts_at(rules: &[u16], j: usize, into: &mut [u16]) -> usize
         place += body + k * m;
     }
     count
+}
+
+// Where the rules begin that are tested at each feature: 64 places a feature, of which `counts` are used.
+pub struct Starts {
+    pub places: [u16; 1024],
+    pub counts: [u8; 16],
+}
+
+pub fn starts_of(rules: &[u16]) -> Starts
+    requires { ⌜ (wholeRules 64 (now rules) ≡ true) × (length (now rules) ≤ 8192) ⌝ }
+    ensures { λ r. ⌜ AllStarts (now (rules .entry)) (r .places) (r .counts) ⌝ }
+{
+    let mut places = [0u16; 1024];
+    let mut counts = [0u8; 16];
+    let mut j = 0usize;
+    while j < 16 {
+        let from = j * 64;
+        let to = from + 64;
+        let count = starts_at(rules, j, &mut places[from..to]);
+        counts[j] = (count % 256) as u8;
+        j += 1;
+    }
+    Starts { places, counts }
 }
 
 // The highest-numbered of some features.

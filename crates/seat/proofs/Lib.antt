@@ -1,16 +1,27 @@
 -- The written search, from its top theorems down.
+--   ReadyJob: what a clinic sees when its job has ended
 --   FirstBuild: one pair's search finds the first build in dictionary order that has the option, or there is none
 --   JobSteps: a job is at its end after just K steps, and at work before
+--   JobResult: what masks and share hold then
+pub mod Bits
+pub mod NoBits
+pub mod ExamplePlaces
 pub mod Takes
 pub mod InTurn
 pub mod GivenUp
 pub mod SearchSteps
+pub mod TrialLength
 pub mod PairSteps
 pub mod PairsInOrder
+pub mod PairsOfAJob
 pub mod JobSteps
+pub mod PairView
+pub mod WorkedPairs
+pub mod JobResult
 pub mod Fitting
 pub mod Candidates
 pub mod Search
 pub mod Completed
 pub mod Completions
 pub mod FirstBuild
+pub mod ReadyJob

@@ -33,7 +33,7 @@ pub record Begins (sizes choices : List ℕ) (i a : ℕ) (clinic : Clinic) : Typ
   pub choices-are : clinic .seat .choices ≡ choices
   pub trial-is : clinic .seat .trial ≡ nothing16
 
-same-again : (n i a : ℕ) → getD (replicate n a) i a ≡ a
+pub same-again : (n i a : ℕ) → getD (replicate n a) i a ≡ a
 same-again zero i a = refl
 same-again (suc n) zero a = refl
 same-again (suc n) (suc i) a = same-again n i a
