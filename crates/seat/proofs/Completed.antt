@@ -11,7 +11,7 @@ use lib.ListN.{length, set, length-set}
 use lib.Seq.{sets, getD-set-same, getD-set-other}
 use Rattle.catalogue.specs.Rule.{optionAt}
 use Rattle.catalogue.proofs.RulesByFeature.{AgreeTo}
-use Rattle.seat.proofs.Search.{Each, Empty, Completes}
+use Rattle.seat.proofs.FirstCompletion.{Each, Empty, Completes}
 
 -- a test at a feature that depends on the options up to there alone
 abbrev pub LooksBack : (ℕ → List ℕ → Bool) → Type 0

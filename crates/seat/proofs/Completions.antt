@@ -19,9 +19,9 @@ use Rattle.catalogue.proofs.RulesByFeature.{passes-agree, rules-by-feature, tes
 use Rattle.seat.specs.Clinic.{nothing16}
 use Rattle.seat.specs.Candidates.{candidates, chosenOtherwise}
 use Rattle.seat.proofs.Fitting.{Fitting}
-use Rattle.seat.proofs.Search.{Completes}
+use Rattle.seat.proofs.FirstCompletion.{Completes}
 use Rattle.seat.proofs.Completed.{PlacedAt, completes-placed, placed-completes}
-use Rattle.seat.proofs.Candidates.{Allowed, not-otherwise, candidates-allowed}
+use Rattle.seat.proofs.Allowed.{Allowed, not-otherwise, candidates-allowed}
 
 abbrev pub Completion : Catalogue → List ℕ → ℕ → ℕ → List ℕ → Type 0
 Completion catalogue choices i a =

@@ -20,9 +20,9 @@ use Rattle.seat.specs.Clinic.{nothing16}
 use Rattle.seat.specs.Candidates.{candidates, chosenOtherwise}
 use Rattle.seat.specs.Count.{oneStep, nothingTried, searchFrom, pairSearch}
 use Rattle.seat.proofs.Fitting.{Fitting}
-use Rattle.seat.proofs.Search.{Finds, search-finds}
+use Rattle.seat.proofs.FirstCompletion.{Finds, search-finds}
 use Rattle.seat.proofs.Completions.{Completion, completions-are-builds}
-use Rattle.seat.proofs.Candidates.{chosen-otherwise, candidates-rising}
+use Rattle.seat.proofs.Allowed.{chosen-otherwise, candidates-rising}
 
 -- what is found is the answer to the question which build is the first, padded
 pub record Answers (catalogue : Catalogue) (choices : List ℕ) (i a : ℕ) (found : Option (List ℕ)) : Type 0 where

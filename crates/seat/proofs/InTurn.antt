@@ -22,7 +22,7 @@ pub data InTurn (all : List ℕ) : List ℕ → Type 0 where
   done : InTurn all []
   also : {v : ℕ} {vs : List ℕ} → firstAbove v all ≡ firstOf vs → InTurn all vs → InTurn all (v ∷ vs)
 
-count-above : (k s v r : ℕ) → s ≤ suc v → suc v + r ≡ s + k → firstAbove v (countFrom s k) ≡ firstOf (countFrom (suc v) r)
+pub count-above : (k s v r : ℕ) → s ≤ suc v → suc v + r ≡ s + k → firstAbove v (countFrom s k) ≡ firstOf (countFrom (suc v) r)
 unfolding firstAbove countFrom
 count-above zero s v zero l e = refl
 count-above zero s v (suc r) l e = absurd (omega arith)

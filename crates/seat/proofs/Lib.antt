@@ -5,10 +5,14 @@
 --   JobResult: what masks and share hold then
 pub mod Bits
 pub mod NoBits
+pub mod Fits
+pub mod PlaceBounds
 pub mod ExamplePlaces
 pub mod Takes
 pub mod InTurn
+pub mod CandidatesAt
 pub mod GivenUp
+pub mod GoingBack
 pub mod SearchSteps
 pub mod TrialLength
 pub mod PairSteps
@@ -19,8 +23,8 @@ pub mod PairView
 pub mod WorkedPairs
 pub mod JobResult
 pub mod Fitting
-pub mod Candidates
-pub mod Search
+pub mod Allowed
+pub mod FirstCompletion
 pub mod Completed
 pub mod Completions
 pub mod FirstBuild

@@ -1,0 +1,26 @@
+-- The share comes back filled with 255; the state is that of the first pair, which `started` makes.
+use Rattle.seat.specs.Step.{posted}
+use borrow.Author.Needs.{needs}
+use Rattle.seat.proofs.job.post.Statement.{statement}
+use Rattle.seat.proofs.job.post.Tie as tie
+
+empty-requires : tie.Need-empty-requires
+empty-requires c κs = search needs
+
+slice-aggregate-started : tie.Need-slice-aggregate-started
+slice-aggregate-started c = search needs
+
+started-requires : tie.Need-started-requires
+started-requires c κs = search needs
+
+same-length : tie.Need-same-length
+same-length c = search needs
+
+returns : tie.Need-returns
+unfolding posted
+returns c = rw (c .started .ensures, c .before .before .before .before .empty .ensures, c .before .before .before .before .before .before .before .before .pre .0)
+
+pub post-spec : {M : Type 1} → statement M
+post-spec =
+    tie.close
+    (tie.spec empty-requires slice-aggregate-started started-requires same-length returns)

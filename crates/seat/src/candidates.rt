@@ -1,0 +1,58 @@
+// The candidates at a feature for one pair: the pair's own option, else the choice in force, else all options, rising.
+ghost use mathlib.Core.Path.{_≡_};
+ghost use Prim.Native.Nat.{_<_, _≤_};
+ghost use lib.ListN.{length, getD};
+ghost use Rattle.seat.specs.Candidates.{firstCandidate, firstAbove, nextCandidate};
+ghost use mathlib.Core.List.{_∷_, []};
+ghost use Rattle.seat.specs.Ways.{nextOf};
+
+// The next greater candidate, if there is one.
+pub enum Next {
+    Candidate(u8),
+    Nothing,
+}
+
+pub fn first_candidate(sizes: &[u8], choices: &[u8], i: usize, a: u8, j: usize) -> u8
+    requires { ⌜ (length (now choices) ≡ 16) × (j < 16) × (1 ≤ getD (now sizes) j 0) ⌝ }
+    ensures { λ r. ⌜ r ≡ firstCandidate (now (sizes .entry)) (now (choices .entry)) i a j ⌝ }
+{
+    if j == i {
+        return a;
+    }
+    let choice = choices[j];
+    if choice != 255 {
+        return choice;
+    }
+    0
+}
+
+// Goes by value: v need not be a candidate itself.
+pub fn next_candidate(sizes: &[u8], choices: &[u8], i: usize, a: u8, j: usize, v: u8) -> Next
+    requires { ⌜ (length (now choices) ≡ 16) × (j < 16) × (j < length (now sizes)) × (v < 255) ⌝ }
+    ensures { λ r. ⌜ nextOf r ≡ nextCandidate (now (sizes .entry)) (now (choices .entry)) i a j v ⌝ }
+{
+    if j == i {
+        return above(v, a);
+    }
+    let choice = choices[j];
+    if choice != 255 {
+        return above(v, choice);
+    }
+    let next = v + 1;
+    if next < sizes[j] {
+        Next::Candidate(next)
+    } else {
+        Next::Nothing
+    }
+}
+
+// The only candidate, if it is greater than v.
+fn above(v: u8, only: u8) -> Next
+    ensures { λ r. ⌜ nextOf r ≡ firstAbove v (only ∷ []) ⌝ }
+{
+    if v < only {
+        Next::Candidate(only)
+    } else {
+        Next::Nothing
+    }
+}

@@ -1,0 +1,62 @@
+// Posting a job, and closing a seat. All that a posting keeps are the choices, as they then are.
+use crate::Seat;
+use crate::State;
+use crate::search::started;
+use crate::share::empty;
+ghost use mathlib.Core.Path.{_≡_};
+ghost use Prim.Native.Nat.{_<_, _≤_};
+ghost use lib.ListN.{length, getD, set};
+ghost use Rattle.seat.specs.Clinic.{closedClinic};
+ghost use Rattle.seat.specs.Step.{posted};
+
+pub fn enter(seat: Seat, share: &mut [u8], sizes: &[u8]) -> Seat
+    requires { ⌜ (length (now share) ≡ 4096) × (1 ≤ getD (now sizes) 0 0) ⌝ }
+    ensures { λ r. ⌜ record { seat = r; share = now (share .exit) } ≡ posted (now (sizes .entry)) (seat .choices) ⌝ }
+{
+    let choices = seat.choices;
+    post(choices, share, sizes)
+}
+
+pub fn choose(seat: Seat, share: &mut [u8], sizes: &[u8], feature: usize, option: u8) -> Seat
+    requires { ⌜ (feature < 16) × (length (now share) ≡ 4096) × (1 ≤ getD (now sizes) 0 0) ⌝ }
+    ensures { λ r. ⌜ record { seat = r; share = now (share .exit) } ≡ posted (now (sizes .entry)) (set (seat .choices) feature option) ⌝ }
+{
+    let mut choices = seat.choices;
+    choices[feature] = option;
+    post(choices, share, sizes)
+}
+
+pub fn relax(seat: Seat, share: &mut [u8], sizes: &[u8], feature: usize) -> Seat
+    requires { ⌜ (feature < 16) × (length (now share) ≡ 4096) × (1 ≤ getD (now sizes) 0 0) ⌝ }
+    ensures { λ r. ⌜ record { seat = r; share = now (share .exit) } ≡ posted (now (sizes .entry)) (set (seat .choices) feature 255) ⌝ }
+{
+    choose(seat, share, sizes, feature, 255)
+}
+
+pub fn close(share: &mut [u8]) -> Seat
+    requires { ⌜ length (now share) ≡ 4096 ⌝ }
+    ensures { λ r. ⌜ record { seat = r; share = now (share .exit) } ≡ closedClinic ⌝ }
+{
+    empty(share);
+    Seat {
+        state: State::Closed,
+        choices: [255u8; 16],
+        masks: [0u16; 16],
+        trial: [255u8; 16],
+    }
+}
+
+// Masks emptied, share filled with 255, pair (0, 0).
+fn post(choices: [u8; 16], share: &mut [u8], sizes: &[u8]) -> Seat
+    requires { ⌜ (length (now share) ≡ 4096) × (1 ≤ getD (now sizes) 0 0) × (length choices ≡ 16) ⌝ }
+    ensures { λ r. ⌜ record { seat = r; share = now (share .exit) } ≡ posted (now (sizes .entry)) choices ⌝ }
+{
+    empty(share);
+    let state = started(sizes, &choices, 0, 0);
+    Seat {
+        state,
+        choices,
+        masks: [0u16; 16],
+        trial: [255u8; 16],
+    }
+}

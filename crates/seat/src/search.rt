@@ -1,0 +1,266 @@
+// One step of the written search.
+use crate::Place;
+use crate::Seat;
+use crate::State;
+use crate::candidates::Next;
+use crate::candidates::first_candidate;
+use crate::candidates::next_candidate;
+use crate::share::write_example;
+ghost use mathlib.Core.Path.{_≡_};
+ghost use mathlib.Core.Bool.{true, false};
+ghost use Prim.Native.Nat.{ℕ, _<_, _≤_};
+ghost use lib.ListN.{length, getD};
+ghost use Rattle.catalogue.specs.Fault.{faultOf};
+ghost use Rattle.seat.specs.Candidates.{chosenOtherwise};
+ghost use Rattle.seat.specs.Clinic.{nothing16, withExample};
+ghost use Rattle.seat.specs.Step.{givenUp, tried, started, afterPair, stepAt, step};
+ghost use Rattle.seat.specs.Fit.{seatFits, placeFits};
+ghost use Rattle.catalogue.specs.Starts.{AllStarts};
+ghost use Rattle.seat.specs.Ways.{triedOf};
+ghost use Rattle.seat.specs.declared.State.the-variants.{AtWork};
+
+// What comes of trying an option.
+pub enum Way {
+    GoOn { depth: u8, next: u8 },
+    Build,
+    Exhausted,
+}
+
+pub struct Attempt {
+    pub way: Way,
+    pub trial: [u8; 16],
+}
+
+// One step for a seat at work: record and share of the written search after it.
+pub fn step(
+    seat: Seat,
+    share: &mut [u8],
+    sizes: &[u8],
+    rules: &[u16],
+    places: &[u16],
+    counts: &[u8],
+) -> Seat
+    requires { ⌜ faultOf (record { sizes = now sizes; list = now rules }) ≡ 0 ⌝ }
+    requires { ⌜ seatFits (record { sizes = now sizes; list = now rules }) seat ≡ true ⌝ }
+    requires { ⌜ length (now share) ≡ 4096 ⌝ }
+    requires { ⌜ AllStarts (now rules) (now places) (now counts) ⌝ }
+    ensures { λ r. ⌜ record { seat = r; share = now (share .exit) } ≡ step (record { sizes = now (sizes .entry); list = now (rules .entry) }) (record { seat = seat; share = now (share .entry) }) ⌝ }
+{
+    let state = seat.state;
+    match state {
+        State::Closed => seat,
+        State::Ready => seat,
+        State::AtWork(place) => step_at(seat, place, share, sizes, rules, places, counts),
+    }
+}
+
+// Rule 1, then the others.
+fn step_at(
+    seat: Seat,
+    place: Place,
+    share: &mut [u8],
+    sizes: &[u8],
+    rules: &[u16],
+    places: &[u16],
+    counts: &[u8],
+) -> Seat
+    requires { ⌜ faultOf (record { sizes = now sizes; list = now rules }) ≡ 0 ⌝ }
+    requires { ⌜ seatFits (record { sizes = now sizes; list = now rules }) seat ≡ true ⌝ }
+    requires { ⌜ (seat .state ≡ AtWork place) × (length (now share) ≡ 4096) ⌝ }
+    requires { ⌜ AllStarts (now rules) (now places) (now counts) ⌝ }
+    ensures { λ r. ⌜ record { seat = r; share = now (share .exit) } ≡ stepAt (record { sizes = now (sizes .entry); list = now (rules .entry) }) place (record { seat = seat; share = now (share .entry) }) ⌝ }
+{
+    let choices = seat.choices;
+    let feature = place.feature;
+    let option = place.option;
+    if chosen_otherwise(&choices, feature, option) {
+        return pair_ended(seat, sizes, feature, option);
+    }
+    let trial = seat.trial;
+    let attempt = try_next(place, &choices, trial, sizes, rules, places, counts);
+    let way = attempt.way;
+    let placed = attempt.trial;
+    match way {
+        Way::GoOn { depth, next } => {
+            let masks = seat.masks;
+            Seat {
+                state: State::AtWork(Place {
+                    feature,
+                    option,
+                    depth,
+                    next,
+                }),
+                choices,
+                masks,
+                trial: placed,
+            }
+        }
+        Way::Build => {
+            let found = with_example(seat, share, feature, option, &placed);
+            pair_ended(found, sizes, feature, option)
+        }
+        Way::Exhausted => pair_ended(seat, sizes, feature, option),
+    }
+}
+
+// Whether a feature has a choice other than an option.
+fn chosen_otherwise(choices: &[u8], feature: u8, option: u8) -> bool
+    requires { ⌜ feature < length (now choices) ⌝ }
+    ensures { λ r. ⌜ r ≡ chosenOtherwise (now (choices .entry)) feature option ⌝ }
+{
+    let i = feature as usize;
+    let choice = choices[i];
+    if choice == 255 {
+        return false;
+    }
+    choice != option
+}
+
+// Rules 2 to 5: the option is placed and tested against each rule whose highest-numbered feature is the depth.
+fn try_next(
+    place: Place,
+    choices: &[u8],
+    trial: [u8; 16],
+    sizes: &[u8],
+    rules: &[u16],
+    places: &[u16],
+    counts: &[u8],
+) -> Attempt
+    requires { ⌜ faultOf (record { sizes = now sizes; list = now rules }) ≡ 0 ⌝ }
+    requires { ⌜ placeFits (record { sizes = now sizes; list = now rules }) place ≡ true ⌝ }
+    requires { ⌜ (length (now choices) ≡ 16) × ((f : ℕ) → f < place .depth → getD trial f 255 < 255) ⌝ }
+    requires { ⌜ AllStarts (now rules) (now places) (now counts) ⌝ }
+    ensures { λ r. ⌜ triedOf (r .way) (r .trial) ≡ tried (record { sizes = now (sizes .entry); list = now (rules .entry) }) (now (choices .entry)) (place .feature) (place .option) (place .depth) (place .next) trial ⌝ }
+{
+    let depth = place.depth;
+    let option = place.option;
+    let next = place.next;
+    let i = place.feature as usize;
+    let j = depth as usize;
+    let mut placed = trial;
+    placed[j] = next;
+    let from = j * 64;
+    let to = from + byte(counts[j]);
+    if !catalogue::passes(rules, j, &places[from..to], &placed) {
+        return given_up(sizes, choices, i, option, depth, next, trial);
+    }
+    if j + 1 == sizes.len() {
+        return Attempt {
+            way: Way::Build,
+            trial: placed,
+        };
+    }
+    let first = first_candidate(sizes, choices, i, option, j + 1);
+    Attempt {
+        way: Way::GoOn {
+            depth: depth + 1,
+            next: first,
+        },
+        trial: placed,
+    }
+}
+
+// Rule 5: the next greater candidate, at this depth or the nearest earlier one that has any.
+fn given_up(
+    sizes: &[u8],
+    choices: &[u8],
+    i: usize,
+    option: u8,
+    depth: u8,
+    v: u8,
+    trial: [u8; 16],
+) -> Attempt
+    requires { ⌜ (length (now choices) ≡ 16) × (length (now sizes) ≤ 16) × (depth < length (now sizes)) × (v < 255) ⌝ }
+    requires { ⌜ ((f : ℕ) → f < depth → getD trial f 255 < 255) ⌝ }
+    ensures { λ r. ⌜ triedOf (r .way) (r .trial) ≡ givenUp (now (sizes .entry)) (now (choices .entry)) i option depth v trial ⌝ }
+{
+    let mut placed = trial;
+    let mut j = depth;
+    let mut given = v;
+    loop {
+        match next_candidate(sizes, choices, i, option, j as usize, given) {
+            Next::Candidate(next) => {
+                return Attempt {
+                    way: Way::GoOn { depth: j, next },
+                    trial: placed,
+                };
+            }
+            Next::Nothing => {}
+        }
+        if j == 0 {
+            return Attempt {
+                way: Way::Exhausted,
+                trial: placed,
+            };
+        }
+        j -= 1;
+        let at = j as usize;
+        given = placed[at];
+        placed[at] = 255;
+    }
+}
+
+// The example written into the share, the bit set in the mask.
+fn with_example(seat: Seat, share: &mut [u8], feature: u8, option: u8, example: &[u8; 16]) -> Seat
+    requires { ⌜ (feature < 16) × (option < 16) × (length (now share) ≡ 4096) × (length (now example) ≡ 16) ⌝ }
+    ensures { λ r. ⌜ record { seat = r; share = now (share .exit) } ≡ withExample feature option (now (example .entry)) (record { seat = seat; share = now (share .entry) }) ⌝ }
+{
+    let i = feature as usize;
+    let a = option as usize;
+    write_example(share, i * 256 + a * 16, example);
+    let mut found = seat;
+    let mask = found.masks[i];
+    found.masks[i] = mask | (1u16 << option);
+    found
+}
+
+// A pair ends, and the next starts in the same step; after the last the seat is ready.
+fn pair_ended(seat: Seat, sizes: &[u8], feature: u8, option: u8) -> Seat
+    requires { ⌜ (length (now sizes) ≤ 16) × (feature < length (now sizes)) × (option < 16) × (1 ≤ getD (now sizes) 0 0) × (length (seat .choices) ≡ 16) ⌝ }
+    ensures { λ r. ⌜ r ≡ record { state = afterPair (now (sizes .entry)) (seat .choices) feature option; choices = seat .choices; masks = seat .masks; trial = nothing16 } ⌝ }
+{
+    let choices = seat.choices;
+    let masks = seat.masks;
+    let state = after_pair(sizes, &choices, feature, option);
+    Seat {
+        state,
+        choices,
+        masks,
+        trial: [255u8; 16],
+    }
+}
+
+fn after_pair(sizes: &[u8], choices: &[u8], feature: u8, option: u8) -> State
+    requires { ⌜ (length (now sizes) ≤ 16) × (feature < length (now sizes)) × (option < 16) × (length (now choices) ≡ 16) × (1 ≤ getD (now sizes) 0 0) ⌝ }
+    ensures { λ r. ⌜ r ≡ afterPair (now (sizes .entry)) (now (choices .entry)) feature option ⌝ }
+{
+    let i = feature as usize;
+    let next = option + 1;
+    if next < sizes[i] {
+        return started(sizes, choices, feature, next);
+    }
+    if i + 1 < sizes.len() {
+        return started(sizes, choices, feature + 1, 0);
+    }
+    State::Ready
+}
+
+// A pair starts at depth 0 with the first candidate there.
+pub fn started(sizes: &[u8], choices: &[u8], feature: u8, option: u8) -> State
+    requires { ⌜ (length (now choices) ≡ 16) × (1 ≤ getD (now sizes) 0 0) ⌝ }
+    ensures { λ r. ⌜ r ≡ started (now (sizes .entry)) (now (choices .entry)) feature option ⌝ }
+{
+    let first = first_candidate(sizes, choices, feature as usize, option, 0);
+    State::AtWork(Place {
+        feature,
+        option,
+        depth: 0,
+        next: first,
+    })
+}
+
+fn byte(x: u8) -> usize
+    ensures { λ r. ⌜ (r ≡ x) × (r < 256) ⌝ }
+{
+    x as usize
+}
