@@ -6,5 +6,6 @@ pub mod Catalogue
 pub mod Fault
 pub mod Format
 pub mod Build
+pub mod Gic
 pub mod Builds
 pub mod Starts

@@ -4,7 +4,7 @@
 -- does nothing is shown at all. Each pair's search answers for its own pair, and the job only writes the answers down.
 use Prim.Native.Nat.{ℕ, _<_}
 use mathlib.Core.Path.{_≡_, refl, sym, _∙_, subst}
-use mathlib.Core.Logic.{_⊎_, _↔_}
+use mathlib.Core.Logic.{_↔_}
 use mathlib.Core.Bool.{true}
 use mathlib.Core.List.{List}
 use mathlib.Core.Option.{Option, none, some}
@@ -13,15 +13,13 @@ use Rattle.catalogue.specs.Rule.{optionAt}
 use Rattle.catalogue.specs.Catalogue.{Catalogue}
 use Rattle.catalogue.specs.Fault.{faultOf}
 use Rattle.catalogue.specs.Build.{IsBuild, BuildWith, FirstWith, padded}
-use Rattle.seat.specs.declared.Place.{Place}
-use Rattle.seat.specs.declared.State.the-variants.{Ready, AtWork}
+use Rattle.catalogue.specs.Gic.{GicClosure}
 use Rattle.seat.specs.Bits.{hasBit}
-use Rattle.seat.specs.Clinic.{Clinic, nothing16, noneLeft, emptyShare, exampleIn}
-use Rattle.seat.specs.Step.{steps, posted, ReadyAfter}
+use Rattle.seat.specs.Clinic.{nothing16, noneLeft, emptyShare, exampleIn}
+use Rattle.seat.specs.Step.{posted, ReadyAfter}
 use Rattle.seat.specs.Count.{pairSearch, jobSteps}
 use Rattle.seat.proofs.Fitting.{ChoicesFit, Fitting}
 use Rattle.seat.proofs.FirstBuild.{finds-nothing, finds-first}
-use Rattle.seat.proofs.Takes.{Working}
 use Rattle.seat.proofs.JobSteps.{jobEnded, job-steps, job-at-work}
 use Rattle.seat.proofs.JobResult.{option-of, job-masks, job-example-found, job-example-none, job-nothing}
 
@@ -106,3 +104,7 @@ module _ (catalogue : Catalogue) (fault : faultOf catalogue ≡ 0) (choices : Li
           absurd
           (let first = finds-first catalogue choices i a (fitting i a m) trial e in
           no-build (first .0) (first .2 .one-of-them .is-build))
+
+  -- what is shown is the GIC closure of the catalogue under the choices
+  pub shown-is-gic : GicClosure catalogue choices (λ (i a : ℕ). hasBit (maskAt i) a)
+  shown-is-gic = record { consistent = λ i a l set. left-exactly i a l .0 set; no-solution-lost = build-left }

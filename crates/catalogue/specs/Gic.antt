@@ -1,0 +1,19 @@
+-- Global inverse consistency, document 000, Definition 1, in its words: a value (x, a) is globally inverse consistent iff
+-- some solution I has I[x] = a; the GIC closure removes all the values that do not belong to a solution, and so has the
+-- same solutions. Variables are features, values options, solutions builds that keep the choices in force.
+use Prim.Native.Nat.{ℕ, _<_}
+use mathlib.Core.Path.{_≡_}
+use mathlib.Core.Bool.{Bool, true}
+use mathlib.Core.List.{List}
+use lib.ListN.{length}
+use Rattle.catalogue.specs.Rule.{optionAt}
+use Rattle.catalogue.specs.Catalogue.{Catalogue}
+use Rattle.catalogue.specs.Build.{IsBuild, BuildWith}
+
+pub record GicClosure (catalogue : Catalogue) (choices : List ℕ) (left : ℕ → ℕ → Bool) : Type 0 where
+  -- every value that is left belongs to a solution
+  pub consistent : (i a : ℕ) → i < length (catalogue .sizes) → left i a ≡ true
+      → (build : List ℕ) × BuildWith catalogue choices i a build
+  -- and every value of a solution is left
+  pub no-solution-lost : (build : List ℕ) → IsBuild catalogue choices build
+      → (i : ℕ) → i < length (catalogue .sizes) → left i (optionAt build i) ≡ true
