@@ -11,6 +11,7 @@ pub mod PlacedSteps
 pub mod Starts
 pub mod AllStarts
 pub mod Format
+pub mod Remarks
 pub mod RulesByFeature
 pub mod Options
 pub mod Padded

@@ -3,6 +3,7 @@
 -- same solutions. Variables are features, values options, solutions builds that keep the choices in force.
 use Prim.Native.Nat.{ℕ, _<_}
 use mathlib.Core.Path.{_≡_}
+use mathlib.Core.Logic.{_↔_}
 use mathlib.Core.Bool.{Bool, true}
 use mathlib.Core.List.{List}
 use lib.ListN.{length}
@@ -10,10 +11,12 @@ use Rattle.catalogue.specs.Rule.{optionAt}
 use Rattle.catalogue.specs.Catalogue.{Catalogue}
 use Rattle.catalogue.specs.Build.{IsBuild, BuildWith}
 
+-- a value that is globally inverse consistent
+abbrev pub Gic : Catalogue → List ℕ → ℕ → ℕ → Type 0
+Gic catalogue choices i a = (build : List ℕ) × BuildWith catalogue choices i a build
+
+-- the values that are left, `left`, are the closure
 pub record GicClosure (catalogue : Catalogue) (choices : List ℕ) (left : ℕ → ℕ → Bool) : Type 0 where
-  -- every value that is left belongs to a solution
-  pub consistent : (i a : ℕ) → i < length (catalogue .sizes) → left i a ≡ true
-      → (build : List ℕ) × BuildWith catalogue choices i a build
-  -- and every value of a solution is left
-  pub no-solution-lost : (build : List ℕ) → IsBuild catalogue choices build
+  pub exactly : (i a : ℕ) → i < length (catalogue .sizes) → (left i a ≡ true) ↔ Gic catalogue choices i a
+  pub same-solutions : (build : List ℕ) → IsBuild catalogue choices build
       → (i : ℕ) → i < length (catalogue .sizes) → left i (optionAt build i) ≡ true

@@ -27,7 +27,7 @@ pub fn passes(rules: &[u16], j: usize, starts: &[u16], placed: &[u8]) -> bool
 }
 
 // Writes where the rules begin that are tested at feature j, in their order, and answers how many there are.
-pub fn starts_at(rules: &[u16], j: usize, into: &mut [u16]) -> usize
+fn starts_at(rules: &[u16], j: usize, into: &mut [u16]) -> usize
     requires { ⌜ wholeRules 64 (now rules) ≡ true ⌝ }
     requires { ⌜ (length (now rules) ≤ 8192) × (64 ≤ length (now into)) ⌝ }
     ensures { λ r. ⌜ (r ≡ length (startsAt (now (rules .entry)) j)) × (r ≤ 64) × (take r (now (into .exit)) ≡ startsAt (now (rules .entry)) j) ⌝ }
@@ -40,7 +40,7 @@ pub fn starts_at(rules: &[u16], j: usize, into: &mut [u16]) -> usize
         let m = wide(rest[1]);
         let body = 2 + k;
         if highest(&rest[2..body]) == j {
-            into[count] = (place % 65536) as u16;
+            into[count] = (place % 65536) as u16; // a place is below 8,192
             count += 1;
         }
         place += body + k * m;

@@ -3,6 +3,7 @@
 -- empty trial; and where rule 1 ends the pair, a build with a at i does not keep the choice there.
 use Prim.Native.Nat.{ℕ, _≤_}
 use mathlib.Core.Path.{_≡_, refl, sym, ap, _∙_}
+use mathlib.Core.Logic.{_↔_}
 use mathlib.Core.Bool.{Bool, true, false, cond}
 use mathlib.Core.List.{List, head?}
 use mathlib.Core.Option.{Option, none, some, Option·map, Option·some-injective, Option·none-ne-some, Option·some-ne-none}
@@ -75,6 +76,16 @@ module _ (catalogue : Catalogue) (choices : List ℕ) (i a : ℕ) (fitting : Fit
           → (build : List ℕ) → BuildWith catalogue choices i a build → ⊥
       go (FirstIs.nothing n) e = n
       go (FirstIs.first {build = b} f) e = absurd (Option·some-ne-none (padded b) e)
+
+  pub finds-nothing-exactly : (pairSearch catalogue choices i a .found ≡ none)
+      ↔ ((build : List ℕ) → BuildWith catalogue choices i a build → ⊥)
+  finds-nothing-exactly = (finds-nothing, λ none-has. go none-has (pair-answers .is-right) (pair-answers .is-padded))
+    where
+      go : ((build : List ℕ) → BuildWith catalogue choices i a build → ⊥) → {answer : Option (List ℕ)}
+          → FirstIs catalogue choices i a answer → pairSearch catalogue choices i a .found ≡ Option·map padded answer
+          → pairSearch catalogue choices i a .found ≡ none
+      go none-has (FirstIs.nothing n) e = e
+      go none-has (FirstIs.first {build = b} f) e = absurd (none-has b (f .one-of-them))
 
   pub finds-first : (trial : List ℕ) → pairSearch catalogue choices i a .found ≡ some trial
       → (build : List ℕ) × (trial ≡ padded build) × FirstWith catalogue choices i a build
