@@ -28,4 +28,5 @@ pub mod FirstCompletion
 pub mod Completed
 pub mod Completions
 pub mod FirstBuild
+pub mod ReadyOnce
 pub mod ReadyJob
