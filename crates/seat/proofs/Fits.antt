@@ -85,7 +85,7 @@ module _ (catalogue : Catalogue) (seat : Seat) where
   state-within : (state : State) → stateFits catalogue seat state ≡ true → StateFits catalogue seat state
   state-within Closed h = record {
     closed-empty = λ e (f : ℕ) (l : f < 16).
-        let t = and-eq-true-iff (eqb (getD (seat .choices) f 255) 255) _ .0 (every-below (emptyAt seat) 16 h f l) in
+        let t = and-eq-true-iff (eqb (getD (seat .choices) f 255) 255) _ .0 (every-below (emptyAt (seat .choices) (seat .masks)) 16 h f l) in
         (eqb-true _ _ (t .0), eqb-true _ _ (t .1));
     place-within = λ (p : Place) e. let z : _≡_ {A = ℕ} 0 1 = cc in absurd (omega arith);
   }
@@ -100,7 +100,7 @@ module _ (catalogue : Catalogue) (seat : Seat) where
 
   within-state : (state : State) → StateFits catalogue seat state → stateFits catalogue seat state ≡ true
   within-state Closed fits =
-      below-every (emptyAt seat) 16
+      below-every (emptyAt (seat .choices) (seat .masks)) 16
       (λ (f : ℕ) (l : f < 16). let t = fits .closed-empty refl f l in rw (eq-eqb _ _ (t .0), eq-eqb _ _ (t .1)) refl)
   within-state Ready fits = refl
   within-state (AtWork place) fits = fits-place (fits .place-within place refl)
@@ -124,14 +124,14 @@ module _ (catalogue : Catalogue) (seat : Seat) where
   unfolding seatFits
   seat-fits h =
       let depth = depthOf (seat .state) in
-      let t3 = and-eq-true-iff _ (everyBelow 16 (entryFits catalogue depth seat)) .0 h in
+      let t3 = and-eq-true-iff _ (everyBelow 16 (entryFits (catalogue .sizes) depth (seat .trial))) .0 h in
       let t2 = and-eq-true-iff _ (stateFits catalogue seat (seat .state)) .0 (t3 .0) in
-      let t1 = and-eq-true-iff (everyBelow 16 (choiceFits catalogue seat)) _ .0 (t2 .0) in
-      let entry = every-below (entryFits catalogue depth seat) 16 (t3 .1) in
+      let t1 = and-eq-true-iff (everyBelow 16 (choiceFits (catalogue .sizes) (seat .choices))) _ .0 (t2 .0) in
+      let entry = every-below (entryFits (catalogue .sizes) depth (seat .trial)) 16 (t3 .1) in
       record {
         choice-below = λ (f : ℕ) (l : f < 16) other.
-            ltb-true _ _ (rw (ne-eqb (getD (seat .choices) f 255) 255 other) at (every-below (choiceFits catalogue seat) 16 (t1 .0) f l));
-        mask-below = λ (f : ℕ) (l : f < 16). ltb-true _ _ (every-below (maskFits catalogue seat) 16 (t1 .1) f l);
+            ltb-true _ _ (rw (ne-eqb (getD (seat .choices) f 255) 255 other) at (every-below (choiceFits (catalogue .sizes) (seat .choices)) 16 (t1 .0) f l));
+        mask-below = λ (f : ℕ) (l : f < 16). ltb-true _ _ (every-below (maskFits (catalogue .sizes) (seat .masks)) 16 (t1 .1) f l);
         state-fits = state-within (seat .state) (t2 .1);
         placed-below = λ (f : ℕ) (l : f < 16) (placed : f < depth). ltb-true _ _ (rw (lt-ltb f depth placed) at (entry f l));
         nothing-from = λ (f : ℕ) (l : f < 16) (deep : depth ≤ f). eqb-true _ _ (rw (le-ltb f depth deep) at (entry f l));
@@ -140,12 +140,12 @@ module _ (catalogue : Catalogue) (seat : Seat) where
   pub fits-seat : SeatFits catalogue seat → seatFits catalogue seat ≡ true
   unfolding seatFits
   fits-seat fits =
-      let choices = below-every (choiceFits catalogue seat) 16
+      let choices = below-every (choiceFits (catalogue .sizes) (seat .choices)) 16
       (λ (f : ℕ) (l : f < 16). choice-within (getD (seat .choices) f 255) (sizeOf catalogue f) (fits .choice-below f l)) in
-      let masks = below-every (maskFits catalogue seat) 16
+      let masks = below-every (maskFits (catalogue .sizes) (seat .masks)) 16
       (λ (f : ℕ) (l : f < 16). lt-ltb (getD (seat .masks) f 0) (2 ^ sizeOf catalogue f) (fits .mask-below f l)) in
       let state = within-state (seat .state) (fits .state-fits) in
-      let entries = below-every (entryFits catalogue (depthOf (seat .state)) seat) 16
+      let entries = below-every (entryFits (catalogue .sizes) (depthOf (seat .state)) (seat .trial)) 16
       (λ (f : ℕ) (l : f < 16). entry-within f (depthOf (seat .state)) (getD (seat .trial) f 255) (sizeOf catalogue f) (fits .placed-below f l) (fits .nothing-from f l)) in
       and-eq-true-iff _ _ .1
       (and-eq-true-iff _ _ .1 (and-eq-true-iff _ _ .1 (choices, masks), state), entries)

@@ -126,7 +126,7 @@ module _ (catalogue : Catalogue) (fault : faultOf catalogue ≡ 0) (choices : Li
   pub job-mask-below : (i : ℕ) → getD masks i 0 < 2 ^ getD sizes i 0
   job-mask-below i = no-bit-from (getD sizes i 0) (getD masks i 0) (no-option-no-bit i)
 
-  pub job-mask-fits : (i : ℕ) → maskFits catalogue (jobEnded catalogue choices .seat) i ≡ true
+  pub job-mask-fits : (i : ℕ) → maskFits (catalogue .sizes) (jobEnded catalogue choices .seat .masks) i ≡ true
   job-mask-fits i = lt-ltb (getD masks i 0) (2 ^ getD sizes i 0) (job-mask-below i)
 
   pub job-mask-missing : (i : ℕ) → length sizes ≤ i → getD masks i 0 ≡ 0

@@ -6,6 +6,7 @@
 pub mod Bits
 pub mod NoBits
 pub mod Fits
+pub mod EveryBelow
 pub mod PlaceBounds
 pub mod ExamplePlaces
 pub mod Takes

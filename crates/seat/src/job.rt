@@ -6,7 +6,7 @@ use crate::share::empty;
 ghost use mathlib.Core.Path.{_≡_};
 ghost use Prim.Native.Nat.{_<_, _≤_};
 ghost use lib.ListN.{length, getD, set};
-ghost use Rattle.seat.specs.Clinic.{closedClinic};
+ghost use Rattle.seat.specs.Clinic.{closedClinic, closedSeat};
 ghost use Rattle.seat.specs.Step.{posted};
 
 pub fn enter(seat: Seat, share: &mut [u8], sizes: &[u8]) -> Seat
@@ -38,6 +38,13 @@ pub fn close(share: &mut [u8]) -> Seat
     ensures { λ r. ⌜ record { seat = r; share = now (share .exit) } ≡ closedClinic ⌝ }
 {
     empty(share);
+    closed()
+}
+
+// A closed seat has no choices, empty masks and no trial.
+pub fn closed() -> Seat
+    ensures { λ r. ⌜ r ≡ closedSeat ⌝ }
+{
     Seat {
         state: State::Closed,
         choices: [255u8; 16],

@@ -1,14 +1,18 @@
 // One clinic's record and the search that it is in the middle of. Knows one share of the board and no other seat.
 mod candidates;
+mod fit;
 mod job;
 mod search;
 mod share;
 
+pub use fit::seat_fits;
 pub use job::choose;
 pub use job::close;
+pub use job::closed;
 pub use job::enter;
 pub use job::relax;
 pub use search::step;
+pub use share::empty;
 
 // Where a search stands: it looks for a build with `option` at `feature`, has placed options before `depth`, and
 // tries `next` there.
