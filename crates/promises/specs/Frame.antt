@@ -1,21 +1,28 @@
 -- No call made for a seat writes outside that seat's share, and each step changes one seat's record and no other part of
--- the desk but next. On any desk and board, in a run or not.
+-- the desk but next. On any desk and board, in a run or not; a turn is made only where catalogue and desk passed their
+-- checks.
 use Prim.Native.Nat.{ℕ, _+_, _<_}
 use mathlib.Core.Path.{_≡_}
-use mathlib.Core.Bool.{false}
+use mathlib.Core.Bool.{true, false}
 use mathlib.Core.Option.{some}
 use mathlib.Core.List.{[]}
 use lib.ListN.{length}
 use Rattle.catalogue.specs.Catalogue.{Catalogue}
+use Rattle.catalogue.specs.Fault.{faultOf}
 use Rattle.seat.specs.Step.{step}
 use Rattle.desk.specs.Room.{Room, clinicAt}
+use Rattle.desk.specs.Fit.{deskFits}
 use Rattle.desk.specs.Call.{Call, turns, isOf, numbersOf}
 use Rattle.desk.specs.Turn.{served, seatAfter, turn}
 use Rattle.desk.specs.Perform.{perform}
+use Rattle.promises.specs.Moment.{seatIn}
 
--- a desk has eight seats and the board its length
+-- a desk has eight seats, each with sixteen choices, masks and trial entries, and the board has its length
 pub record Whole (room : Room) : Type 0 where
   pub eight : length (room .desk .seats) ≡ 8
+  pub choices-length : (c : ℕ) → c < 8 → length (seatIn room c .choices) ≡ 16
+  pub masks-length : (c : ℕ) → c < 8 → length (seatIn room c .masks) ≡ 16
+  pub trial-length : (c : ℕ) → c < 8 → length (seatIn room c .trial) ≡ 16
   pub board-length : length (room .board) ≡ 32768
 
 pub record Frame : Type 0 where
@@ -25,7 +32,8 @@ pub record Frame : Type 0 where
       → (clinicAt (perform catalogue call room .room) d ≡ clinicAt room d)
       × (perform catalogue call room .room .desk .next ≡ room .desk .next)
   -- a turn gives the seat that it serves one step, leaves every other clinic alone, and moves next to the seat after it
-  pub turns-stay : (catalogue : Catalogue) (room : Room) → Whole room → (c : ℕ) → c < 8 → served (room .desk) ≡ some c
+  pub turns-stay : (catalogue : Catalogue) (room : Room) → Whole room
+      → faultOf catalogue ≡ 0 → deskFits catalogue (room .desk) ≡ true → (c : ℕ) → served (room .desk) ≡ some c
       → (clinicAt (turn catalogue room) c ≡ step catalogue (clinicAt room c))
       × ((d : ℕ) → d < 8 → (d ≡ c → ⊥) → clinicAt (turn catalogue room) d ≡ clinicAt room d)
       × (turn catalogue room .desk .next ≡ seatAfter c)

@@ -58,7 +58,7 @@ module _ (bytes : List ℕ) (place : ℕ) (new : List ℕ) (room : place + lengt
       ∙ ap (λ (n : ℕ). drop n bytes) past-place
 
 -- bytes that are all one, read at any place
-read-replicate : (from count rest x : ℕ)
+pub read-replicate : (from count rest x : ℕ)
     → take count (drop from (replicate (from + (count + rest)) x)) ≡ replicate count x
 read-replicate from count rest x =
     rw (

@@ -12,8 +12,12 @@ pub mod ExamplePlaces
 pub mod Takes
 pub mod InTurn
 pub mod CandidatesAt
+pub mod CandidatesBelow
 pub mod GivenUp
 pub mod GoingBack
+pub mod TrialFits
+pub mod ClinicFits
+pub mod StepFits
 pub mod SearchSteps
 pub mod TrialLength
 pub mod PairSteps

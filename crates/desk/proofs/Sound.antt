@@ -1,0 +1,114 @@
+-- What holds of every room of a run: eight seats, a board of its length, next one of the eight, and every clinic fits the
+-- catalogue, its arrays and share of their lengths. So the desk fits, and number 20 isn't given. On a desk whose arrays
+-- have their lengths, that it fits says no less. A clinic that fits can be put in the place of another, and so a turn keeps
+-- a room sound.
+use Prim.Native.Nat.{ℕ, zero, suc, _<_}
+use mathlib.Core.Path.{_≡_, refl}
+use mathlib.Core.Bool.{Bool, true, false, and-eq-true-iff}
+use mathlib.Core.Option.{Option, none, some}
+use native.Mathlib.Omega.{arith}
+use lib.ListN.{length, length-replicate}
+use lib.Dec.{leb, eqb}
+use borrow.Author.Tests.{leb-true, le-leb, eqb-true, eqb-false}
+use Rattle.catalogue.specs.Catalogue.{Catalogue}
+use Rattle.catalogue.specs.Fault.{faultOf}
+use Rattle.seat.specs.declared.Seat.{Seat}
+use Rattle.seat.specs.Clinic.{Clinic}
+use Rattle.seat.specs.Fit.{everyBelow, seatFits}
+use Rattle.seat.specs.Step.{step}
+use Rattle.seat.proofs.Fits.{every-below, below-every}
+use Rattle.seat.proofs.ClinicFits.{ClinicFits, closed-fits}
+use Rattle.seat.proofs.StepFits.{step-fits}
+use Rattle.desk.specs.Room.{Room, seatAt, clinicAt, withClinic, freshDesk, emptyBoard}
+use Rattle.desk.specs.Fit.{deskFits}
+use Rattle.desk.specs.Turn.{seatAfter, served, turnFor, turn, afterTurns}
+use Rattle.desk.proofs.WithClinic.{share-length, fresh-clinic, with-eight, with-board-length, with-same, with-other}
+use Rattle.desk.proofs.Served.{after-below, served-found}
+
+pub record Sound (catalogue : Catalogue) (room : Room) : Type 0 where
+  pub eight : length (room .desk .seats) ≡ 8
+  pub board-length : length (room .board) ≡ 32768
+  pub next-below : room .desk .next < 8
+  pub clinics-fit : (c : ℕ) → c < 8 → ClinicFits catalogue (clinicAt room c)
+
+-- sixteen choices, masks and trial entries
+pub record Sixteen (seat : Seat) : Type 0 where
+  pub all-choices : length (seat .choices) ≡ 16
+  pub all-masks : length (seat .masks) ≡ 16
+  pub all-entries : length (seat .trial) ≡ 16
+
+module _ (catalogue : Catalogue) (room : Room) where
+  abbrev seatTest : ℕ → Bool
+  seatTest c = seatFits catalogue (seatAt (room .desk) c)
+
+  pub sound-fits : Sound catalogue room → deskFits catalogue (room .desk) ≡ true
+  unfolding deskFits
+  sound-fits sound =
+      and-eq-true-iff (leb (room .desk .next) 7) (everyBelow 8 seatTest) .1 (
+        le-leb (room .desk .next) 7 (omega (arith, sound .next-below)),
+        below-every seatTest 8 (λ (c : ℕ) (l : c < 8). sound .clinics-fit c l .fits),
+      )
+
+  pub fits-sound : length (room .desk .seats) ≡ 8 → length (room .board) ≡ 32768
+      → ((c : ℕ) → c < 8 → Sixteen (seatAt (room .desk) c)) → deskFits catalogue (room .desk) ≡ true → Sound catalogue room
+  unfolding deskFits
+  fits-sound eight board-length sixteen h =
+      let t = and-eq-true-iff (leb (room .desk .next) 7) (everyBelow 8 seatTest) .0 h in
+      record {
+        eight = eight;
+        board-length = board-length;
+        next-below = omega (arith, leb-true (room .desk .next) 7 (t .0));
+        clinics-fit = λ (c : ℕ) (l : c < 8). record {
+          all-choices = sixteen c l .all-choices;
+          all-masks = sixteen c l .all-masks;
+          all-entries = sixteen c l .all-entries;
+          all-bytes = share-length (room .board) board-length c l;
+          fits = every-below seatTest 8 (t .1) c l;
+        };
+      }
+
+  pub with-clinic-sound : Sound catalogue room → (c next : ℕ) → c < 8 → next < 8 → (clinic : Clinic)
+      → ClinicFits catalogue clinic → Sound catalogue (withClinic c next clinic room)
+  unfolding withClinic
+  with-clinic-sound sound c next l next-below clinic fits = record {
+    eight = with-eight room (sound .eight) (sound .board-length) c next l clinic (fits .all-bytes);
+    board-length = with-board-length room (sound .eight) (sound .board-length) c next l clinic (fits .all-bytes);
+    next-below = next-below;
+    clinics-fit = each;
+  }
+    where
+      each : (d : ℕ) → d < 8 → ClinicFits catalogue (clinicAt (withClinic c next clinic room) d)
+      each d k = go (eqb d c) refl
+        where
+          go : (t : Bool) → eqb d c ≡ t → ClinicFits catalogue (clinicAt (withClinic c next clinic room) d)
+          go true h =
+              let same : d ≡ c = eqb-true d c h in
+              rw (same, with-same room (sound .eight) (sound .board-length) c next l clinic (fits .all-bytes)) fits
+          go false h =
+              rw (with-other room (sound .eight) (sound .board-length) c next l clinic (fits .all-bytes) d (eqb-false d c h))
+              (sound .clinics-fit d k)
+
+pub fresh-sound : (catalogue : Catalogue) → Sound catalogue (record { desk = freshDesk; board = emptyBoard })
+fresh-sound catalogue = record {
+  eight = refl;
+  board-length = length-replicate {A = ℕ} 32768 255;
+  next-below = omega arith;
+  clinics-fit = λ (c : ℕ) (l : c < 8). rw (fresh-clinic c l) (closed-fits catalogue);
+}
+
+module _ (catalogue : Catalogue) (fault : faultOf catalogue ≡ 0) where
+  pub turn-sound : (room : Room) → Sound catalogue room → Sound catalogue (turn catalogue room)
+  unfolding turn
+  turn-sound room sound = go (served (room .desk)) refl
+    where
+      go : (found : Option ℕ) → served (room .desk) ≡ found → Sound catalogue (turnFor catalogue room found)
+      go none e = sound
+      go (some c) e =
+          let here = served-found (room .desk) (sound .next-below) c e in
+          with-clinic-sound catalogue room sound c (seatAfter c) (here .below) (after-below c) (step catalogue (clinicAt room c))
+          (step-fits catalogue fault (clinicAt room c) (sound .clinics-fit c (here .below)))
+
+  pub turns-sound : (w : ℕ) (room : Room) → Sound catalogue room → Sound catalogue (afterTurns catalogue w room)
+  unfolding afterTurns
+  turns-sound zero room sound = sound
+  turns-sound (suc w) room sound = turns-sound w (turn catalogue room) (turn-sound room sound)
