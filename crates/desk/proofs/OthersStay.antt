@@ -24,7 +24,7 @@ use Rattle.desk.proofs.Sound.{Sound}
 use Rattle.desk.proofs.Performed.{after-call}
 use Rattle.desk.proofs.AcceptedCalls.{accepted}
 
-posted-bytes : (sizes choices : List ℕ) → length (posted sizes choices .share) ≡ 4096
+pub posted-bytes : (sizes choices : List ℕ) → length (posted sizes choices .share) ≡ 4096
 unfolding posted
 posted-bytes sizes choices = length-replicate {A = ℕ} 4096 255
 

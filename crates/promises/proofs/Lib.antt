@@ -1,4 +1,4 @@
--- Refusals, Frame: the statements of those names in specs/, proved
+-- Refusals, Frame, TwoRuns: the statements of those names in specs/, proved
 -- SoundMoments: every moment of a run is sound
 -- RefusedOpening: after a refused opening no seat ever opens
 -- OnTheTrolley: each statement says something of the trolley
@@ -6,4 +6,5 @@ pub mod Refusals
 pub mod SoundMoments
 pub mod RefusedOpening
 pub mod Frame
+pub mod TwoRuns
 pub mod OnTheTrolley

@@ -15,7 +15,7 @@ use Rattle.desk.proofs.SoundRuns.{calls-sound, opening-sound}
 use Rattle.promises.specs.Moment.{moment, Opened}
 
 module _ (catalogue : Catalogue) (board : List ℕ) (accepted : Opened catalogue board) where
-  not-refused : openRefusal catalogue board ≡ 0
+  pub not-refused : openRefusal catalogue board ≡ 0
   not-refused = sym (opening-number catalogue board) ∙ accepted
 
   pub opened-faultless : faultOf catalogue ≡ 0

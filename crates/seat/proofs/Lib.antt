@@ -23,6 +23,7 @@ pub mod TrialLength
 pub mod PairSteps
 pub mod PairsInOrder
 pub mod PairsOfAJob
+pub mod StepsAdded
 pub mod JobSteps
 pub mod PairView
 pub mod WorkedPairs
