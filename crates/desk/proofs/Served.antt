@@ -1,18 +1,23 @@
 -- The seat that a turn serves is one of the eight and at work, for the ring is looked through from next on; and so next
 -- stays one of the eight.
 use Prim.Native.Nat.{ℕ, zero, suc, _+_, _<_}
-use mathlib.Core.Path.{_≡_, refl}
+use mathlib.Core.Path.{_≡_, refl, ap}
 use mathlib.Core.Bool.{Bool, true, false, cond}
 use mathlib.Core.Option.{some}
 use native.Mathlib.Nat.{mod-lt}
 use native.Mathlib.Omega.{arith}
 use lib.Dec.{lit<}
+use Rattle.seat.specs.declared.State.{State}
 use Rattle.desk.specs.declared.Desk.{Desk}
 use Rattle.desk.specs.Room.{seatAt}
 use Rattle.desk.specs.Turn.{isAtWork, seatAfter, atWorkFrom, served}
 
 pub after-below : (c : ℕ) → seatAfter c < 8
 after-below c = mod-lt (c + 1) (lit< tt)
+
+-- a state at work and one that isn't differ
+pub not-idle : (state idle : State) → isAtWork state ≡ true → isAtWork idle ≡ false → state ≡ idle → ⊥
+not-idle state idle work rests same = let z : _≡_ {A = ℕ} 0 1 = cc (ap isAtWork same) in omega arith
 
 pub record FoundAtWork (desk : Desk) (c : ℕ) : Type 0 where
   pub below : c < 8

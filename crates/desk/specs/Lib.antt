@@ -6,3 +6,4 @@ pub mod Turn
 pub mod Refusal
 pub mod Perform
 pub mod Run
+pub mod Answers

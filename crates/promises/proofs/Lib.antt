@@ -1,10 +1,18 @@
--- Refusals, Frame, TwoRuns: the statements of those names in specs/, proved
--- SoundMoments: every moment of a run is sound
--- RefusedOpening: after a refused opening no seat ever opens
--- OnTheTrolley: each statement says something of the trolley
+-- Refusals, OptionsLeft, Waiting, SearchState, TwoRuns, InARun, Frame: the statements of those names in specs/, proved.
+-- SoundMoments: every moment of a run is sound. RefusedOpening: after a refused opening no seat ever opens.
+-- OnTheTrolley: each statement says something of the trolley.
 pub mod Refusals
 pub mod SoundMoments
 pub mod RefusedOpening
 pub mod Frame
+pub mod Standing
+pub mod SearchState
+pub mod Pace
+pub mod Waiting
 pub mod TwoRuns
+pub mod Lasting
+pub mod KeptChoices
+pub mod Reached
+pub mod OptionsLeft
+pub mod InARun
 pub mod OnTheTrolley

@@ -14,7 +14,7 @@ use borrow.Author.Tests.{ltb-true, ltb-false}
 use Rattle.seat.specs.Clinic.{put, nothing16, emptyShare, examplePlace, exampleIn}
 
 -- bytes read from the front of two lists that are joined
-from-front : (place count : ℕ) (front back : List ℕ) → place + count ≤ length front
+pub from-front : (place count : ℕ) (front back : List ℕ) → place + count ≤ length front
     → take count (drop place (front ++ back)) ≡ take count (drop place front)
 from-front place count front back l =
     let inside : count ≤ length (drop place front) = rw length-drop (omega arith) in

@@ -18,6 +18,7 @@ pub mod GoingBack
 pub mod TrialFits
 pub mod ClinicFits
 pub mod StepFits
+pub mod StepWrites
 pub mod SearchSteps
 pub mod TrialLength
 pub mod PairSteps

@@ -1,0 +1,44 @@
+-- What the type of a desk tells of its value: there are eight seats, and sixteen choices, masks and trial entries in each.
+use Prim.Native.Nat.{ℕ, zero, suc, _<_}
+use mathlib.Core.Path.{_≡_, sym, _∙_}
+use mathlib.Core.List.{List, [], _∷_, map}
+use native.Mathlib.Omega.{arith}
+use lib.ListN.{length, getD, length-map}
+use mir.Val.{Val}
+use denote.Laws.{Is}
+use denote.Shadow.{shadow}
+use denote.Array.{each}
+use Rattle.seat.specs.declared.Seat.{Seat}
+use Rattle.seat.proofs.Seat as seat-type
+use Rattle.desk.specs.declared.Desk.{Desk}
+use Rattle.desk.proofs.Desk as desk-type
+use Rattle.desk.proofs.WithClinic.{noSeat}
+use Rattle.desk.proofs.Sound.{Sixteen}
+
+numbers : (xs : List ℕ) (n : ℕ) → length (map (λ (x : ℕ). x) xs) ≡ n → length xs ≡ n
+numbers xs n h = sym (length-map xs (λ (x : ℕ). x)) ∙ h
+
+one-seat : (seat : Seat) (value : List Val) → Is (seat-type.the-field .row) (seat-type.the-field .into seat) value → Sixteen seat
+one-seat seat value h = record {
+  all-choices = numbers (seat .choices) 16 (h .1 .1 .1 .0 .1 .0 .1);
+  all-masks = numbers (seat .masks) 16 (h .1 .1 .1 .1 .0 .1 .0 .1);
+  all-entries = numbers (seat .trial) 16 (h .1 .1 .1 .1 .1 .0 .1 .0 .1);
+}
+
+each-seat : (seats : List Seat) (values : List Val)
+    → shadow (each (seat-type.the-field .row .Denot) (seat-type.the-field .row .own) (map (seat-type.the-field .into) seats) values)
+    → (c : ℕ) → c < length seats → Sixteen (getD seats c noSeat)
+each-seat [] [] h c l = absurd (omega arith)
+each-seat [] (value ∷ values) h c l = absurd h
+each-seat (seat ∷ seats) [] h c l = absurd h
+each-seat (seat ∷ seats) (value ∷ values) h zero l = one-seat seat (value ∷ []) (h .0)
+each-seat (seat ∷ seats) (value ∷ values) h (suc c) l = each-seat seats values (h .1) c (omega arith)
+
+pub eight-seats : (desk : Desk) (value : List Val) → Is desk-type.the-row desk value → length (desk .seats) ≡ 8
+eight-seats desk value h = sym (length-map (desk .seats) (seat-type.the-field .into)) ∙ h .1 .1 .0 .1 .0 .1
+
+pub sixteen-each : (desk : Desk) (value : List Val) → Is desk-type.the-row desk value
+    → (c : ℕ) → c < 8 → Sixteen (getD (desk .seats) c noSeat)
+sixteen-each desk value h c l =
+    let eight = eight-seats desk value h in
+    each-seat (desk .seats) (h .1 .1 .0 .0) (h .1 .1 .0 .1 .1) c (omega arith)

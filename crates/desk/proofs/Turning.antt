@@ -1,0 +1,68 @@
+-- What holds between two turns of a call: the room is sound, so many turns have led to it, and the marks of who is at work
+-- are those of its seats. A turn keeps all of it. Where no turn is left to make or nobody is at work, the call is done.
+use Prim.Native.Nat.{ℕ, _+_, _<_, _≤_}
+use mathlib.Core.Path.{_≡_, sym, _∙_}
+use mathlib.Core.Bool.{Bool}
+use mathlib.Core.List.{List}
+use mathlib.Core.Logic.{_⊎_, ⊎-elim}
+use mathlib.Core.Option.{none, some}
+use lib.ListN.{length, set, length-map}
+use Rattle.catalogue.specs.Catalogue.{Catalogue}
+use Rattle.catalogue.specs.Fault.{faultOf}
+use Rattle.seat.specs.Clinic.{Clinic}
+use Rattle.seat.specs.Step.{step}
+use Rattle.desk.specs.Room.{Room, clinicAt, withClinic}
+use Rattle.desk.specs.Call.{turns}
+use Rattle.desk.specs.Answers.{trueFrom}
+use Rattle.desk.specs.Perform.{turnsAnswer, done}
+use Rattle.desk.specs.Turn.{isAtWork, isSome, seatAfter, served, turn, afterTurns, turnsMade}
+use Rattle.desk.proofs.Sound.{Sound, turn-sound}
+use Rattle.desk.proofs.FirstAtWork.{marks, marks-set, marks-found}
+use Rattle.desk.proofs.MadeTurns.{Made, one-more, all-made, nobody-left}
+
+pub record Turning (catalogue : Catalogue) (w : ℕ) (start : Room) (made : ℕ) (working : List Bool) (room : Room) : Type 0 where
+  pub sound : Sound catalogue room
+  pub so-far : Made catalogue w start made room
+  pub marked : working ≡ marks (room .desk .seats)
+
+module _
+    {catalogue : Catalogue}
+    {w : ℕ}
+    {start : Room}
+    {made : ℕ}
+    {working : List Bool}
+    {room : Room}
+    (now : Turning catalogue w start made working room)
+  where
+    pub eight-marks : length working ≡ 8
+    eight-marks = rw (now .marked, length-map) (now .sound .eight)
+
+    pub found-served : trueFrom 8 working (room .desk .next) ≡ served (room .desk)
+    found-served = rw (now .marked) (marks-found 8 (room .desk) (room .desk .next))
+
+    pub turn-made : faultOf catalogue ≡ 0 → made < w → (c : ℕ) → trueFrom 8 working (room .desk .next) ≡ some c
+        → (clinic : Clinic) → clinic ≡ step catalogue (clinicAt room c)
+        → Turning catalogue w start (made + 1) (set working c (isAtWork (clinic .seat .state)))
+        (withClinic c (seatAfter c) clinic room)
+    unfolding withClinic turn
+    turn-made fault l c found clinic stepped =
+        let here : served (room .desk) ≡ some c = sym found-served ∙ found in
+        let after : turn catalogue room ≡ withClinic c (seatAfter c) clinic room = rw (here, stepped) in
+        record {
+          sound = rw after at (turn-sound catalogue fault room (now .sound));
+          so-far = rw stepped (one-more (now .so-far) l c here);
+          marked = rw (now .marked) (marks-set (room .desk .seats) c (clinic .seat));
+        }
+
+    pub turns-ended : (w ≤ made) ⊎ (trueFrom 8 working (room .desk .next) ≡ none)
+        → (room ≡ afterTurns catalogue w start) × (made ≡ turnsMade catalogue w start)
+    turns-ended =
+        ⊎-elim (all-made (now .so-far))
+        (λ (nobody : trueFrom 8 working (room .desk .next) ≡ none). nobody-left (now .so-far) (sym found-served ∙ nobody))
+
+    pub turns-done : (w ≤ made) ⊎ (trueFrom 8 working (room .desk .next) ≡ none)
+        → record { answer = turnsAnswer made (isSome (trueFrom 8 working (room .desk .next))); room = room } ≡ done catalogue (turns w) start
+    unfolding done
+    turns-done ended =
+        let e = turns-ended ended in
+        rw (found-served, ← (e .0), ← (e .1))

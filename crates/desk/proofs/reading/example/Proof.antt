@@ -1,0 +1,95 @@
+-- Refused, no bytes are handed out. Accepted, it is those of the example, which lie within the board.
+use Prim.Native.Nat.{_+_, _-_, _*_, _<_}
+use mathlib.Core.Path.{_≡_, refl, sym, ap, _∙_}
+use native.Mathlib.Omega.{arith}
+use borrow.Author.Needs.{needs}
+use Rattle.catalogue.specs.Fault.{member}
+use Rattle.desk.specs.Call.{example}
+use Rattle.desk.specs.Refusal.{refusal}
+use Rattle.desk.specs.Perform.{Outcome, done}
+use Rattle.desk.proofs.Performed.{perform-accepted}
+use Rattle.desk.proofs.AcceptedCalls.{accepted}
+use Rattle.desk.proofs.OneSeat.{refused-call}
+use Rattle.desk.proofs.NamedBounds.{feature-bounds}
+use Rattle.desk.proofs.Readings.{example-on-board}
+use Rattle.desk.proofs.reading.example.Statement.{statement}
+use Rattle.desk.proofs.reading.example.Tie as tie
+
+example-refusal-requires : tie.Need-example-refusal-requires
+example-refusal-requires c κs = search needs
+
+slice-aggregate-result : tie.Need-slice-aggregate-result
+slice-aggregate-result c = search needs
+
+returns : tie.Need-returns
+returns c =
+    ap (λ (outcome : Outcome). outcome .answer .bytes)
+    (refused-call _ _ _ _ (c .before .before .example-refusal .ensures _ refl) (c .before .if1 .taken))
+
+-- past the check the call is not refused
+not-refused : (c : tie.Else1) → let a = c .before .before .before .before .before .args in
+    refusal (record { sizes = a .sizes .now; list = a .rules .now }) (example (a .c) (a .i) (a .a))
+    (record { desk = a .desk; board = a .board .now }) ≡ 0
+not-refused c = sym (c .before .example-refusal .ensures _ refl) ∙ c .if1 .left
+
+bounds : (c : tie.Else1) → let a = c .before .before .before .before .before .args in (a .c < 8) × (a .i < 16) × (a .a < 16)
+unfolding member
+bounds c =
+    let passed = accepted _ _ _ (not-refused c) in
+    let b = feature-bounds passed refl refl in
+    (b .seat-below, b .feature-below-16, omega (arith, passed .option-below refl))
+
+mul-from : tie.Need-mul-from
+mul-from c = let b = bounds c in omega arith
+
+mul-from-2 : tie.Need-mul-from-2
+mul-from-2 c = let b = bounds c in omega arith
+
+add-from : tie.Need-add-from
+add-from c = let b = bounds c in omega arith
+
+mul-from-3 : tie.Need-mul-from-3
+mul-from-3 c = let b = bounds c in omega arith
+
+add-from-2 : tie.Need-add-from-2
+add-from-2 c = let b = bounds c in omega arith
+
+add-to : tie.Need-add-to
+add-to c = let b = bounds c in omega arith
+
+sub-result : tie.Need-sub-result
+sub-result c = search needs
+
+part-result-start : tie.Need-part-result-start
+part-result-start c = search needs
+
+part-result-end : tie.Need-part-result-end
+part-result-end c = let b = bounds c in omega (arith, accepted _ _ _ (not-refused c) .board-length)
+
+returns-2 : tie.Need-returns-2
+unfolding done
+returns-2 c =
+    let a = c .before .before .before .before .before .before .args in
+    let none = not-refused (c .before) in
+    let b = bounds (c .before) in
+    let sixteen : a .c * 4096 + a .i * 256 + a .a * 16 + 16 - (a .c * 4096 + a .i * 256 + a .a * 16) ≡ 16 = omega arith in
+    rw (sixteen, example-on-board (a .board .now) (accepted _ _ _ none .board-length) (b .0) (b .1) (b .2))
+    (ap (λ (outcome : Outcome). outcome .answer .bytes) (sym (perform-accepted _ _ _ none)))
+
+pub example-spec : {M : Type 1} → statement M
+example-spec =
+    tie.close
+    (tie.spec
+    example-refusal-requires
+    slice-aggregate-result
+    returns
+    mul-from
+    mul-from-2
+    add-from
+    mul-from-3
+    add-from-2
+    add-to
+    sub-result
+    part-result-start
+    part-result-end
+    returns-2)

@@ -1,0 +1,15 @@
+-- The number that a call answers is its refusal's.
+use mathlib.Core.Path.{refl, sym, _∙_}
+use borrow.Author.Needs.{needs}
+use Rattle.desk.proofs.Performed.{perform-number}
+use Rattle.desk.proofs.reading.example_number.Statement.{statement}
+use Rattle.desk.proofs.reading.example_number.Tie as tie
+
+example-refusal-requires : tie.Need-example-refusal-requires
+example-refusal-requires c κs = search needs
+
+returns : tie.Need-returns
+returns c = c .example-refusal .ensures _ refl ∙ sym (perform-number _ _ _)
+
+pub example-number-spec : {M : Type 1} → statement M
+example-number-spec = tie.close (tie.spec example-refusal-requires returns)

@@ -1,0 +1,69 @@
+-- Refused, nothing is left to say. Accepted, the mask of the feature is read; on a desk that fits it has 16 bits at most, and
+-- the code counts them.
+use mathlib.Core.Path.{_≡_, refl, sym, _∙_}
+use native.Mathlib.Omega.{arith}
+use borrow.Author.Needs.{needs}
+use lib.ListN.{getD}
+use Rattle.catalogue.specs.Fault.{member}
+use Rattle.seat.proofs.Bits.{bit-count}
+use Rattle.desk.specs.Room.{seatAt}
+use Rattle.desk.specs.Call.{options}
+use Rattle.desk.specs.Refusal.{refusal}
+use Rattle.desk.specs.Perform.{done}
+use Rattle.desk.proofs.Performed.{perform-accepted}
+use Rattle.desk.proofs.AcceptedCalls.{accepted}
+use Rattle.desk.proofs.OneSeat.{refused-call}
+use Rattle.desk.proofs.NamedBounds.{FeatureBounds, feature-bounds}
+use Rattle.desk.proofs.Readings.{mask-of-16-bits}
+use Rattle.desk.proofs.reading.options.Statement.{statement}
+use Rattle.desk.proofs.reading.options.Tie as tie
+
+options-number-requires : tie.Need-options-number-requires
+options-number-requires c κs = search needs
+
+returns : tie.Need-returns
+returns c = refused-call _ _ _ _ (c .before .options-number .ensures _ refl) (c .if1 .taken)
+
+-- past the check the call is not refused
+not-refused : (c : tie.Else1) → let a = c .before .before .before .before .before .args in
+    refusal (record { sizes = a .sizes .now; list = a .rules .now }) (options (a .c) (a .i))
+    (record { desk = a .desk; board = a .board .now }) ≡ 0
+not-refused c = sym (c .before .options-number .ensures _ refl) ∙ c .if1 .left
+
+bounds : (c : tie.Else1) → let a = c .before .before .before .before .before .args in
+    FeatureBounds (record { sizes = a .sizes .now; list = a .rules .now }) (a .c) (a .i)
+unfolding member
+bounds c = feature-bounds (accepted _ _ _ (not-refused c)) refl refl
+
+mul-seat : tie.Need-mul-seat
+mul-seat c = let b = bounds (c .before) in omega arith
+
+array-copy-out-seat : tie.Need-array-copy-out-seat
+array-copy-out-seat c = bounds (c .before) .seat-below
+
+mul-mask : tie.Need-mul-mask
+mul-mask c = let b = bounds (c .before .before .before) in omega arith
+
+array-read-mask : tie.Need-array-read-mask
+array-read-mask c = bounds (c .before .before .before) .feature-below-16
+
+returns-2 : tie.Need-returns-2
+unfolding done
+returns-2 c =
+    let ready = c .before .before .before in
+    let a = ready .before .before .before .before .before .args in
+    let none = not-refused ready in
+    let small = mask-of-16-bits _ (a .desk) (accepted _ _ _ none .desk-fits) (bounds ready) in
+    rw (← bit-count (getD (seatAt (a .desk) (a .c) .masks) (a .i) 0) small) (sym (perform-accepted _ _ _ none))
+
+pub options-spec : {M : Type 1} → statement M
+options-spec =
+    tie.close
+    (tie.spec
+    options-number-requires
+    returns
+    mul-seat
+    array-copy-out-seat
+    mul-mask
+    array-read-mask
+    returns-2)

@@ -1,0 +1,20 @@
+// What the calls answer. The number is 0 for none; of a refused call all else is 0 or false, and the desk is as it came.
+use crate::Desk;
+
+pub struct Changed {
+    pub number: u8,
+    pub desk: Desk,
+}
+
+pub struct Left {
+    pub number: u8,
+    pub mask: u16, // bit a for option a
+    pub count: u32, // how many bits are set
+}
+
+pub struct Turned {
+    pub number: u8,
+    pub made: u16,
+    pub working: bool, // whether a seat is still at work
+    pub desk: Desk,
+}

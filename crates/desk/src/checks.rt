@@ -1,0 +1,240 @@
+// The table of refusal numbers, in its order. Of the board the checks ask the length alone.
+use crate::Desk;
+use seat::Seat;
+use seat::State;
+ghost use mathlib.Core.Path.{_≡_};
+ghost use mathlib.Core.List.{List};
+ghost use Prim.Native.Nat.{ℕ, _<_};
+ghost use lib.ListN.{length};
+ghost use Rattle.catalogue.specs.Fault.{faultOf};
+ghost use Rattle.seat.specs.Bits.{hasBit};
+ghost use Rattle.desk.specs.Call.{enter, leave, choose, relax, options, example, turns};
+ghost use Rattle.desk.specs.Fit.{deskFits};
+ghost use Rattle.desk.specs.Refusal.{openRefusal, refusal, hasChoice};
+ghost use Rattle.desk.specs.Turn.{isClosed, isAtWork};
+
+// 1 and 10 to 18: what open checks.
+pub fn open_number(board_length: usize, sizes: &[u8], rules: &[u16]) -> u8
+    ensures { λ r. ⌜ ((board : List ℕ) → length board ≡ «board_length» → r ≡ openRefusal (record { sizes = now (sizes .entry); list = now (rules .entry) }) board) ⌝ }
+{
+    if board_length != 32768 {
+        return 1;
+    }
+    catalogue::fault(sizes, rules)
+}
+
+// 1 to 20: what every other call checks first, and turns alone.
+pub fn turns_number(desk: Desk, board_length: usize, sizes: &[u8], rules: &[u16]) -> u8
+    ensures { λ r. ⌜ ((board : List ℕ) → length board ≡ «board_length» → (w : ℕ) → r ≡ refusal (record { sizes = now (sizes .entry); list = now (rules .entry) }) (turns w) (record { desk = desk; board = board })) ⌝ }
+{
+    let number = open_number(board_length, sizes, rules);
+    if number != 0 {
+        return number;
+    }
+    if desk_fits(desk, sizes, rules) {
+        return 0;
+    }
+    20
+}
+
+pub fn enter_number(desk: Desk, board_length: usize, sizes: &[u8], rules: &[u16], c: usize) -> u8
+    ensures { λ r. ⌜ ((board : List ℕ) → length board ≡ «board_length» → r ≡ refusal (record { sizes = now (sizes .entry); list = now (rules .entry) }) (enter c) (record { desk = desk; board = board })) ⌝ }
+{
+    let number = turns_number(desk, board_length, sizes, rules);
+    if number != 0 {
+        return number;
+    }
+    if 7 < c {
+        return 30;
+    }
+    let seats = desk.seats;
+    if is_closed(seats[c]) {
+        return 0;
+    }
+    32
+}
+
+pub fn leave_number(desk: Desk, board_length: usize, sizes: &[u8], rules: &[u16], c: usize) -> u8
+    ensures { λ r. ⌜ ((board : List ℕ) → length board ≡ «board_length» → r ≡ refusal (record { sizes = now (sizes .entry); list = now (rules .entry) }) (leave c) (record { desk = desk; board = board })) ⌝ }
+{
+    let number = turns_number(desk, board_length, sizes, rules);
+    if number != 0 {
+        return number;
+    }
+    if 7 < c {
+        return 30;
+    }
+    let seats = desk.seats;
+    if is_closed(seats[c]) {
+        return 31;
+    }
+    0
+}
+
+// What every call that names a feature checks first, and options alone.
+pub fn options_number(
+    desk: Desk,
+    board_length: usize,
+    sizes: &[u8],
+    rules: &[u16],
+    c: usize,
+    i: usize,
+) -> u8
+    ensures { λ r. ⌜ ((board : List ℕ) → length board ≡ «board_length» → r ≡ refusal (record { sizes = now (sizes .entry); list = now (rules .entry) }) (options c i) (record { desk = desk; board = board })) ⌝ }
+{
+    let number = leave_number(desk, board_length, sizes, rules, c);
+    if number != 0 {
+        return number;
+    }
+    let seats = desk.seats;
+    if is_at_work(seats[c]) {
+        return 33;
+    }
+    if sizes.len() <= i {
+        return 34;
+    }
+    0
+}
+
+pub fn choose_number(
+    desk: Desk,
+    board_length: usize,
+    sizes: &[u8],
+    rules: &[u16],
+    c: usize,
+    i: usize,
+    a: usize,
+) -> u8
+    ensures { λ r. ⌜ ((board : List ℕ) → length board ≡ «board_length» → r ≡ refusal (record { sizes = now (sizes .entry); list = now (rules .entry) }) (choose c i a) (record { desk = desk; board = board })) ⌝ }
+{
+    let number = options_number(desk, board_length, sizes, rules, c, i);
+    if number != 0 {
+        return number;
+    }
+    if byte(sizes[i]) <= a {
+        return 35;
+    }
+    let seats = desk.seats;
+    let seat = seats[c];
+    if has_choice(seat, i) {
+        return 36;
+    }
+    let masks = seat.masks;
+    if is_left(masks[i], a) {
+        return 0;
+    }
+    37
+}
+
+pub fn relax_number(
+    desk: Desk,
+    board_length: usize,
+    sizes: &[u8],
+    rules: &[u16],
+    c: usize,
+    i: usize,
+) -> u8
+    ensures { λ r. ⌜ ((board : List ℕ) → length board ≡ «board_length» → r ≡ refusal (record { sizes = now (sizes .entry); list = now (rules .entry) }) (relax c i) (record { desk = desk; board = board })) ⌝ }
+{
+    let number = options_number(desk, board_length, sizes, rules, c, i);
+    if number != 0 {
+        return number;
+    }
+    let seats = desk.seats;
+    if has_choice(seats[c], i) {
+        return 0;
+    }
+    38
+}
+
+pub fn example_refusal(
+    desk: Desk,
+    board_length: usize,
+    sizes: &[u8],
+    rules: &[u16],
+    c: usize,
+    i: usize,
+    a: usize,
+) -> u8
+    ensures { λ r. ⌜ ((board : List ℕ) → length board ≡ «board_length» → r ≡ refusal (record { sizes = now (sizes .entry); list = now (rules .entry) }) (example c i a) (record { desk = desk; board = board })) ⌝ }
+{
+    let number = options_number(desk, board_length, sizes, rules, c, i);
+    if number != 0 {
+        return number;
+    }
+    if byte(sizes[i]) <= a {
+        return 35;
+    }
+    let seats = desk.seats;
+    let seat = seats[c];
+    let masks = seat.masks;
+    if is_left(masks[i], a) {
+        return 0;
+    }
+    37
+}
+
+// Number 20: the desk fits a catalogue without a fault.
+fn desk_fits(desk: Desk, sizes: &[u8], rules: &[u16]) -> bool
+    requires { ⌜ faultOf (record { sizes = now sizes; list = now rules }) ≡ 0 ⌝ }
+    ensures { λ r. ⌜ r ≡ deskFits (record { sizes = now (sizes .entry); list = now (rules .entry) }) desk ⌝ }
+{
+    if 7 < desk.next {
+        return false;
+    }
+    let seats = desk.seats;
+    let mut c = 0usize;
+    while c < 8 {
+        let seat = seats[c];
+        if !seat::seat_fits(seat, sizes, rules) {
+            return false;
+        }
+        c += 1;
+    }
+    true
+}
+
+pub fn is_closed(seat: Seat) -> bool
+    ensures { λ r. ⌜ r ≡ isClosed (seat .state) ⌝ }
+{
+    let state = seat.state;
+    match state {
+        State::Closed => true,
+        State::Ready => false,
+        State::AtWork(_) => false,
+    }
+}
+
+pub fn is_at_work(seat: Seat) -> bool
+    ensures { λ r. ⌜ r ≡ isAtWork (seat .state) ⌝ }
+{
+    let state = seat.state;
+    match state {
+        State::Closed => false,
+        State::Ready => false,
+        State::AtWork(_) => true,
+    }
+}
+
+// Whether a feature, below 16, has a choice.
+fn has_choice(seat: Seat, i: usize) -> bool
+    requires { ⌜ i < 16 ⌝ }
+    ensures { λ r. ⌜ r ≡ hasChoice seat i ⌝ }
+{
+    let choices = seat.choices;
+    choices[i] != 255
+}
+
+// Whether an option, below 16, is left.
+fn is_left(mask: u16, a: usize) -> bool
+    requires { ⌜ a < 16 ⌝ }
+    ensures { λ r. ⌜ r ≡ hasBit mask a ⌝ }
+{
+    (mask >> a) % 2 == 1
+}
+
+fn byte(x: u8) -> usize
+    ensures { λ r. ⌜ (r ≡ x) × (r < 256) ⌝ }
+{
+    x as usize
+}

@@ -1,0 +1,68 @@
+// The calls that read a ready seat.
+use crate::Desk;
+use crate::answers::Left;
+use crate::checks::example_refusal;
+use crate::checks::options_number;
+ghost use mathlib.Core.Path.{_≡_};
+ghost use Rattle.desk.specs.Call.{options, example};
+ghost use Rattle.desk.specs.Answers.{leftAnswer};
+ghost use Rattle.desk.specs.Perform.{perform};
+
+// The mask of one feature and how many bits are set in it.
+pub fn options(desk: Desk, board: &[u8], sizes: &[u8], rules: &[u16], c: usize, i: usize) -> Left
+    ensures { λ r. ⌜ record { answer = leftAnswer r; room = record { desk = desk; board = now (board .entry) } } ≡ perform (record { sizes = now (sizes .entry); list = now (rules .entry) }) (options c i) (record { desk = desk; board = now (board .entry) }) ⌝ }
+{
+    let number = options_number(desk, board.len(), sizes, rules, c, i);
+    if number != 0 {
+        return Left {
+            number,
+            mask: 0,
+            count: 0,
+        };
+    }
+    let seats = desk.seats;
+    let seat = seats[c];
+    let masks = seat.masks;
+    let mask = masks[i];
+    Left {
+        number: 0,
+        mask,
+        count: u16::count_ones(mask),
+    }
+}
+
+// The sixteen bytes themselves, as they stand in the seat's share; none where the call is refused.
+pub fn example<'a>(
+    desk: Desk,
+    board: &'a [u8],
+    sizes: &[u8],
+    rules: &[u16],
+    c: usize,
+    i: usize,
+    a: usize,
+) -> &'a [u8]
+    ensures { λ r. ⌜ now r ≡ perform (record { sizes = now (sizes .entry); list = now (rules .entry) }) (example c i a) (record { desk = desk; board = now (board .entry) }) .answer .bytes ⌝ }
+{
+    let number = example_refusal(desk, board.len(), sizes, rules, c, i, a);
+    if number != 0 {
+        return &board[..0];
+    }
+    let from = c * 4096 + i * 256 + a * 16;
+    let to = from + 16;
+    &board[from..to]
+}
+
+// The refusal number of the same call, 0 for none.
+pub fn example_number(
+    desk: Desk,
+    board: &[u8],
+    sizes: &[u8],
+    rules: &[u16],
+    c: usize,
+    i: usize,
+    a: usize,
+) -> u8
+    ensures { λ r. ⌜ r ≡ perform (record { sizes = now (sizes .entry); list = now (rules .entry) }) (example c i a) (record { desk = desk; board = now (board .entry) }) .answer .number ⌝ }
+{
+    example_refusal(desk, board.len(), sizes, rules, c, i, a)
+}

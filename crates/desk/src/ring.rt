@@ -1,0 +1,120 @@
+// Turns: the ring gives one waiting seat one step.
+use crate::Desk;
+use crate::answers::Turned;
+use crate::checks::is_at_work;
+use crate::checks::turns_number;
+use seat::Seat;
+ghost use mathlib.Core.Path.{_≡_};
+ghost use mathlib.Core.Bool.{true};
+ghost use mathlib.Core.List.{map};
+ghost use Prim.Native.Nat.{_<_};
+ghost use lib.ListN.{length};
+ghost use Rattle.catalogue.specs.Fault.{faultOf};
+ghost use Rattle.seat.specs.declared.Seat.{Seat};
+ghost use Rattle.desk.specs.Call.{turns};
+ghost use Rattle.desk.specs.Answers.{turnedOutcome, foundOf, trueFrom};
+ghost use Rattle.desk.specs.Fit.{deskFits};
+ghost use Rattle.desk.specs.Perform.{perform, done};
+ghost use Rattle.desk.specs.Turn.{isAtWork, isSome};
+
+// The first seat at work, if there is one.
+pub enum Found {
+    At(usize),
+    Nobody,
+}
+
+// w turns, or fewer when no seat is at work.
+pub fn turns(desk: Desk, board: &mut [u8], sizes: &[u8], rules: &[u16], w: u16) -> Turned
+    ensures { λ r. ⌜ turnedOutcome r (now (board .exit)) ≡ perform (record { sizes = now (sizes .entry); list = now (rules .entry) }) (turns w) (record { desk = desk; board = now (board .entry) }) ⌝ }
+{
+    let number = turns_number(desk, board.len(), sizes, rules);
+    if number != 0 {
+        return Turned {
+            number,
+            made: 0,
+            working: false,
+            desk,
+        };
+    }
+    make_turns(desk, board, sizes, rules, w)
+}
+
+// On a board and with a catalogue and a desk that passed the checks.
+fn make_turns(desk: Desk, board: &mut [u8], sizes: &[u8], rules: &[u16], w: u16) -> Turned
+    requires { ⌜ (length (now board) ≡ 32768) × (faultOf (record { sizes = now sizes; list = now rules }) ≡ 0) ⌝ }
+    requires { ⌜ deskFits (record { sizes = now sizes; list = now rules }) desk ≡ true ⌝ }
+    ensures { λ r. ⌜ turnedOutcome r (now (board .exit)) ≡ done (record { sizes = now (sizes .entry); list = now (rules .entry) }) (turns w) (record { desk = desk; board = now (board .entry) }) ⌝ }
+{
+    let starts = catalogue::starts_of(rules);
+    let places = starts.places;
+    let counts = starts.counts;
+    let mut seats = desk.seats;
+    let mut next = desk.next;
+    let mut working = seats_at_work(seats);
+    let mut made = 0u16;
+    while made < w {
+        let Found::At(c) = first_at_work(&working, next as usize) else {
+            break;
+        };
+        let from = c * 4096;
+        let to = from + 4096;
+        let seat = seat::step(
+            seats[c],
+            &mut board[from..to],
+            sizes,
+            rules,
+            &places,
+            &counts,
+        );
+        working[c] = is_at_work(seat);
+        seats[c] = seat;
+        next = ((c + 1) % 8) as u8;
+        made += 1;
+    }
+    let found = first_at_work(&working, next as usize);
+    Turned {
+        number: 0,
+        made,
+        working: is_someone(found),
+        desk: Desk { seats, next },
+    }
+}
+
+// Which of the eight seats are at work.
+fn seats_at_work(seats: [Seat; 8]) -> [bool; 8]
+    ensures { λ r. ⌜ r ≡ map (λ (seat : Seat). isAtWork (seat .state)) seats ⌝ }
+{
+    let mut working = [false; 8];
+    let mut c = 0usize;
+    while c < 8 {
+        working[c] = is_at_work(seats[c]);
+        c += 1;
+    }
+    working
+}
+
+// The first seat at work from `next` upward around the ring.
+fn first_at_work(working: &[bool], next: usize) -> Found
+    requires { ⌜ (length (now working) ≡ 8) × (next < 8) ⌝ }
+    ensures { λ r. ⌜ foundOf r ≡ trueFrom 8 (now (working .entry)) next ⌝ }
+{
+    let mut c = next;
+    let mut left = 8usize;
+    while 0 < left {
+        if working[c] {
+            return Found::At(c);
+        }
+        c = (c + 1) % 8;
+        left -= 1;
+    }
+    Found::Nobody
+}
+
+fn is_someone(found: Found) -> bool
+    ensures { λ r. ⌜ r ≡ isSome (foundOf found) ⌝ }
+{
+    match found {
+        Found::At(_) => true,
+        Found::Nobody => false,
+    }
+}

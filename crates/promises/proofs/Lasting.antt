@@ -1,0 +1,149 @@
+-- What lasts through a run: a property that a closed clinic has, that a step keeps, and that a job has as enter, choose or
+-- relax posts it, is had by every clinic at every moment. For a turn is one clinic's step, and a call closes its clinic,
+-- posts a job for it or changes nothing.
+use Prim.Native.Nat.{ℕ, zero, suc, _<_}
+use mathlib.Core.Path.{_≡_, refl}
+use mathlib.Core.Bool.{Bool, true, false}
+use mathlib.Core.List.{List, [], _∷_}
+use mathlib.Core.Option.{Option, none, some}
+use native.Mathlib.Omega.{arith}
+use lib.ListN.{length, set, length-replicate}
+use lib.Dec.{eqb}
+use borrow.Author.Tests.{eqb-true, eqb-false}
+use Rattle.catalogue.specs.Catalogue.{Catalogue}
+use Rattle.catalogue.specs.Fault.{faultOf, member}
+use Rattle.seat.specs.declared.State.{State}
+use Rattle.seat.specs.declared.State.the-variants.{Closed, Ready, AtWork}
+use Rattle.seat.specs.Clinic.{Clinic, closedClinic}
+use Rattle.seat.specs.Step.{step, posted}
+use Rattle.seat.proofs.ClinicFits.{ClinicFits}
+use Rattle.seat.proofs.StepFits.{step-fits}
+use Rattle.desk.specs.Room.{Room, clinicAt, withClinic}
+use Rattle.desk.specs.Call.{Call, enter, leave, choose, relax, options, example, turns}
+use Rattle.desk.specs.Turn.{isClosed, isAtWork, seatAfter, served, turnFor, turn, afterTurns}
+use Rattle.desk.specs.Refusal.{isLeft, refusal}
+use Rattle.desk.specs.Perform.{choicesOf, done, perform, opening}
+use Rattle.desk.specs.Run.{afterCalls}
+use Rattle.desk.proofs.WithClinic.{fresh-clinic, with-same, with-other}
+use Rattle.desk.proofs.Served.{served-found}
+use Rattle.desk.proofs.Sound.{Sound, turn-sound}
+use Rattle.desk.proofs.OthersStay.{posted-bytes}
+use Rattle.desk.proofs.Performed.{after-call, opening-accepted}
+use Rattle.desk.proofs.AcceptedCalls.{accepted}
+use Rattle.desk.proofs.SoundRuns.{call-sound, opening-sound}
+use Rattle.promises.specs.Moment.{moment, Opened}
+use Rattle.promises.proofs.SoundMoments.{not-refused, opened-faultless}
+
+pub record Lasting (catalogue : Catalogue) (P : Clinic → Type 0) : Type 0 where
+  pub closed : P closedClinic
+  pub stepped : (clinic : Clinic) → ClinicFits catalogue clinic → P clinic → P (step catalogue clinic)
+  pub entered : (clinic : Clinic) → ClinicFits catalogue clinic → P clinic → clinic .seat .state ≡ Closed
+      → P (posted (catalogue .sizes) (clinic .seat .choices))
+  pub chosen : (clinic : Clinic) → ClinicFits catalogue clinic → P clinic → clinic .seat .state ≡ Ready
+      → (i a : ℕ) → i < length (catalogue .sizes) → isLeft (clinic .seat) i a ≡ true
+      → P (posted (catalogue .sizes) (set (clinic .seat .choices) i a))
+  pub relaxed : (clinic : Clinic) → ClinicFits catalogue clinic → P clinic → clinic .seat .state ≡ Ready
+      → (i : ℕ) → i < length (catalogue .sizes)
+      → P (posted (catalogue .sizes) (set (clinic .seat .choices) i 255))
+
+is-closed : (state : State) → isClosed state ≡ true → state ≡ Closed
+is-closed Closed h = refl
+is-closed Ready h = let z : _≡_ {A = ℕ} 0 1 = cc in absurd (omega arith)
+is-closed (AtWork p) h = let z : _≡_ {A = ℕ} 0 1 = cc in absurd (omega arith)
+
+is-ready : (state : State) → isClosed state ≡ false → isAtWork state ≡ false → state ≡ Ready
+is-ready Closed h k = let z : _≡_ {A = ℕ} 0 1 = cc in absurd (omega arith)
+is-ready Ready h k = refl
+is-ready (AtWork p) h k = let z : _≡_ {A = ℕ} 0 1 = cc in absurd (omega arith)
+
+module _ (catalogue : Catalogue) (fault : faultOf catalogue ≡ 0) (P : Clinic → Type 0) (lasting : Lasting catalogue P) where
+  -- every clinic of a room has it
+  abbrev EveryClinic : Room → Type 0
+  EveryClinic room = (c : ℕ) → c < 8 → P (clinicAt room c)
+
+  module _ (room : Room) (sound : Sound catalogue room) (before : EveryClinic room) where
+    with-every : (c next : ℕ) → c < 8 → (clinic : Clinic) → length (clinic .share) ≡ 4096 → P clinic
+        → EveryClinic (withClinic c next clinic room)
+    with-every c next l clinic full new d k = go (eqb d c) refl
+      where
+        go : (t : Bool) → eqb d c ≡ t → P (clinicAt (withClinic c next clinic room) d)
+        go true h =
+            let same : d ≡ c = eqb-true d c h in
+            rw (same, with-same room (sound .eight) (sound .board-length) c next l clinic full) new
+        go false h =
+            rw (with-other room (sound .eight) (sound .board-length) c next l clinic full d (eqb-false d c h)) (before d k)
+
+    turn-every : EveryClinic (turn catalogue room)
+    unfolding turn
+    turn-every = go (served (room .desk)) refl
+      where
+        go : (found : Option ℕ) → served (room .desk) ≡ found → EveryClinic (turnFor catalogue room found)
+        go none e = before
+        go (some c) e =
+            let l : c < 8 = served-found (room .desk) (sound .next-below) c e .below in
+            let fits = sound .clinics-fit c l in
+            with-every c (seatAfter c) l (step catalogue (clinicAt room c))
+            (step-fits catalogue fault (clinicAt room c) fits .all-bytes)
+            (lasting .stepped (clinicAt room c) fits (before c l))
+
+  turns-every : (w : ℕ) (room : Room) → Sound catalogue room → EveryClinic room → EveryClinic (afterTurns catalogue w room)
+  unfolding afterTurns
+  turns-every zero room sound before = before
+  turns-every (suc w) room sound before =
+      turns-every w (turn catalogue room) (turn-sound catalogue fault room sound) (turn-every room sound before)
+
+  module _ (room : Room) (sound : Sound catalogue room) (before : EveryClinic room) where
+    posted-every : (c : ℕ) → c < 8 → (choices : List ℕ) → P (posted (catalogue .sizes) choices)
+        → EveryClinic (withClinic c (room .desk .next) (posted (catalogue .sizes) choices) room)
+    posted-every c l choices new =
+        with-every room sound before c (room .desk .next) l (posted (catalogue .sizes) choices)
+        (posted-bytes (catalogue .sizes) choices) new
+
+    done-every : (call : Call) → refusal catalogue call room ≡ 0 → EveryClinic (done catalogue call room .room)
+    unfolding done member
+    done-every (enter c) h =
+        let call = accepted catalogue (enter c) room h in
+        let l : c < 8 = call .seat-below refl in
+        posted-every c l (choicesOf room c)
+        (lasting .entered (clinicAt room c) (sound .clinics-fit c l) (before c l) (is-closed _ (call .seat-closed refl)))
+    done-every (leave c) h =
+        with-every room sound before c (room .desk .next) (accepted catalogue (leave c) room h .seat-below refl) closedClinic
+        (length-replicate {A = ℕ} 4096 255) (lasting .closed)
+    done-every (choose c i a) h =
+        let call = accepted catalogue (choose c i a) room h in
+        let l : c < 8 = call .seat-below refl in
+        posted-every c l (set (choicesOf room c) i a)
+        (lasting .chosen (clinicAt room c) (sound .clinics-fit c l) (before c l)
+        (is-ready _ (call .seat-open refl) (call .not-at-work refl)) i a (call .feature-below refl) (call .option-left refl))
+    done-every (relax c i) h =
+        let call = accepted catalogue (relax c i) room h in
+        let l : c < 8 = call .seat-below refl in
+        posted-every c l (set (choicesOf room c) i 255)
+        (lasting .relaxed (clinicAt room c) (sound .clinics-fit c l) (before c l)
+        (is-ready _ (call .seat-open refl) (call .not-at-work refl)) i (call .feature-below refl))
+    done-every (options c i) h = before
+    done-every (example c i a) h = before
+    done-every (turns w) h = turns-every w room sound before
+
+    call-every : (call : Call) → EveryClinic (perform catalogue call room .room)
+    call-every call = after-call catalogue call room EveryClinic before (done-every call)
+
+  calls-every : (calls : List Call) (room : Room) → Sound catalogue room → EveryClinic room
+      → EveryClinic (afterCalls catalogue calls room)
+  unfolding afterCalls
+  calls-every [] room sound before = before
+  calls-every (call ∷ calls) room sound before =
+      calls-every calls (perform catalogue call room .room) (call-sound catalogue fault room sound call)
+      (call-every room sound before call)
+
+module _ (catalogue : Catalogue) (board : List ℕ) (opened : Opened catalogue board) where
+  pub lasts : (P : Clinic → Type 0) → Lasting catalogue P → (calls : List Call) (c : ℕ) → c < 8
+      → P (clinicAt (moment catalogue board calls) c)
+  unfolding moment
+  lasts P lasting calls =
+      calls-every catalogue (opened-faultless catalogue board opened) P lasting calls (opening catalogue board .room)
+      (opening-sound catalogue board (not-refused catalogue board opened)) first
+    where
+      first : (c : ℕ) → c < 8 → P (clinicAt (opening catalogue board .room) c)
+      first c l =
+          rw (opening-accepted catalogue board (not-refused catalogue board opened), fresh-clinic c l) (lasting .closed)

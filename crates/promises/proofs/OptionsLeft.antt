@@ -1,0 +1,125 @@
+-- Demand 2 holds. After a refused opening no seat is ever ready. In any other run a ready seat stands at the end of its job
+-- under the choices in force, where the search has found what there is to find; and in a sound room the options and
+-- example calls for a ready seat are answered out of its masks and share.
+use Prim.Native.Nat.{ℕ, zero, suc, _<_}
+use mathlib.Core.Path.{_≡_, refl, ap, _∙_}
+use mathlib.Core.Bool.{Bool, true, false, not}
+use mathlib.Core.List.{List, [], _∷_}
+use native.Mathlib.Omega.{arith}
+use lib.ListN.{length, getD}
+use borrow.Author.Tests.{lt-ltb, le-ltb}
+use Rattle.catalogue.specs.Catalogue.{Catalogue, sizeOf}
+use Rattle.catalogue.specs.Checks.{when, first}
+use Rattle.catalogue.specs.Fault.{faultOf, member}
+use Rattle.seat.specs.declared.State.the-variants.{Ready}
+use Rattle.seat.specs.Clinic.{Clinic, exampleIn}
+use Rattle.seat.proofs.Fitting.{ChoicesFit}
+use Rattle.seat.proofs.PlaceBounds.{few-features, size-within}
+use Rattle.seat.proofs.ReadyJob as ready-job
+use Rattle.desk.specs.Room.{Room, shareAt, clinicAt}
+use Rattle.desk.specs.Call.{options, example, refused}
+use Rattle.desk.specs.Refusal.{isLeft, refusal}
+use Rattle.desk.specs.Perform.{Outcome, optionsAnswer, exampleAnswer, done, perform, opening}
+use Rattle.desk.proofs.Sound.{Sound}
+use Rattle.desk.proofs.ChecksPassed.{checks-passed}
+use Rattle.desk.proofs.Performed.{perform-accepted, perform-refused}
+use Rattle.promises.specs.Moment.{moment, Opened, seatIn}
+use Rattle.promises.specs.OptionsLeft.{Shown, OptionsLeft}
+use Rattle.promises.proofs.SoundMoments.{opened-faultless, sound-moment}
+use Rattle.promises.proofs.RefusedOpening.{never-ready}
+use Rattle.promises.proofs.KeptChoices.{kept-fit}
+use Rattle.promises.proofs.Reached.{Ended, mask-at-end, ended-at}
+
+last-row : (left : Bool) → first (when (not left) 37 ∷ []) ≡ when (not left) 37
+last-row true = refl
+last-row false = refl
+
+not-set : (t : Bool) → (t ≡ true → ⊥) → t ≡ false
+not-set true h = absurd (h refl)
+not-set false h = refl
+
+module _
+    (catalogue : Catalogue)
+    (fault : faultOf catalogue ≡ 0)
+    (room : Room)
+    (sound : Sound catalogue room)
+    (c : ℕ)
+    (seat-below : c < 8)
+    (ready : seatIn room c .state ≡ Ready)
+    (i : ℕ)
+    (feature : i < length (catalogue .sizes))
+  where
+    options-accepted : refusal catalogue (options c i) room ≡ 0
+    unfolding member
+    options-accepted =
+        checks-passed catalogue fault (options c i) room sound
+        ∙ rw (le-ltb 7 c (omega arith), ready, lt-ltb i (length (catalogue .sizes)) feature) refl
+
+    module _ (a : ℕ) (option : a < sizeOf catalogue i) where
+      -- accepted where the option is left, and refused by row 37 where it isn't
+      example-number : (left : Bool) → isLeft (seatIn room c) i a ≡ left → refusal catalogue (example c i a) room ≡ when (not left) 37
+      unfolding member
+      example-number left shown-so =
+          checks-passed catalogue fault (example c i a) room sound
+          ∙ rw (
+            le-ltb 7 c (omega arith),
+            ready,
+            lt-ltb i (length (catalogue .sizes)) feature,
+            lt-ltb a (sizeOf catalogue i) option,
+            shown-so,
+          )
+          (last-row left)
+
+    module _ (end : Ended catalogue (clinicAt room c)) where
+      abbrev choices : List ℕ
+      choices = seatIn room c .choices
+
+      fit : ChoicesFit catalogue choices
+      fit = kept-fit catalogue (end .choices-kept)
+
+      mask-is : getD (seatIn room c .masks) i 0 ≡ ready-job.maskAt catalogue choices i
+      mask-is = mask-at-end catalogue (clinicAt room c) end i
+
+      example-is : (a : ℕ) → exampleIn (shareAt (room .board) c) i a ≡ ready-job.exampleAt catalogue choices i a
+      example-is a = ap (λ (clinic : Clinic). exampleIn (clinic .share) i a) (end .is-ended)
+
+      shown : Shown catalogue room c i
+      unfolding done
+      shown = record {
+        mask = ready-job.maskAt catalogue choices i;
+        options-answer =
+            ap (λ (o : Outcome). o .answer) (perform-accepted catalogue (options c i) room options-accepted)
+            ∙ ap optionsAnswer mask-is;
+        left-exactly = λ a. ready-job.left-exactly catalogue fault choices fit i a feature;
+        first-beside = λ a set.
+            let least = ready-job.first-beside catalogue fault choices fit i a set in
+            let build = least .1 .one-of-them in
+            let option : a < sizeOf catalogue i = rw (build .contains) at (build .is-build .within i feature) in
+            let left : isLeft (seatIn room c) i a ≡ true = rw mask-is set in
+            let answered : perform catalogue (example c i a) room .answer ≡ exampleAnswer (exampleIn (shareAt (room .board) c) i a) =
+            ap (λ (o : Outcome). o .answer) (perform-accepted catalogue (example c i a) room (example-number a option true left)) in
+            (least .0, least .1, answered ∙ ap exampleAnswer (example-is a ∙ least .2));
+        none-beside = λ a option clear.
+            let not-left : isLeft (seatIn room c) i a ≡ false = rw mask-is (not-set _ clear) in
+            let number : refusal catalogue (example c i a) room ≡ 37 = example-number a option false not-left in
+            let answered : perform catalogue (example c i a) room .answer ≡ refused (refusal catalogue (example c i a) room) =
+            ap (λ (o : Outcome). o .answer)
+            (perform-refused catalogue (example c i a) room (λ (e : refusal catalogue (example c i a) room ≡ 0). omega arith)) in (
+              answered ∙ ap refused number,
+              example-is a
+                  ∙ ready-job.none-beside catalogue fault choices fit i a (omega (arith, few-features catalogue fault))
+                  (omega (arith, size-within catalogue fault i feature)) clear,
+            );
+      }
+
+pub options-left : OptionsLeft
+options-left catalogue board calls c seat-below ready i feature = go (opening catalogue board .answer .number) refl
+  where
+    go : (r : ℕ) → opening catalogue board .answer .number ≡ r → Shown catalogue (moment catalogue board calls) c i
+    go zero opened =
+        let room : Room = moment catalogue board calls in
+        let fault : faultOf catalogue ≡ 0 = opened-faultless catalogue board opened in
+        shown catalogue fault room (sound-moment catalogue board opened calls) c seat-below ready i feature
+        (ended-at catalogue board opened calls c seat-below ready)
+    go (suc r) refusal-is =
+        absurd (never-ready catalogue board (λ (opened : Opened catalogue board). omega (arith, opened, refusal-is)) calls c ready)

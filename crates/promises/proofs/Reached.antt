@@ -1,0 +1,130 @@
+-- Every clinic at every moment is closed and blank, or came by some steps from a job posted under choices that some build
+-- keeps, if there is any choice: choose takes only an option that a ready seat shows as left, and so one that some build
+-- under the choices contains. A ready seat stands at the end of its job, for more steps change nothing.
+use Prim.Native.Nat.{ℕ, _+_, _<_}
+use mathlib.Core.Path.{_≡_, refl, sym, ap, _∙_}
+use mathlib.Core.Bool.{Bool, true, false}
+use mathlib.Core.List.{List}
+use native.Mathlib.Nat.{add-comm}
+use native.Mathlib.Omega.{arith}
+use lib.ListN.{length, getD, set, List·getD-eq-default}
+use lib.Dec.{ltb}
+use borrow.Author.Tests.{ltb-true, ltb-false}
+use Rattle.catalogue.specs.Catalogue.{Catalogue}
+use Rattle.catalogue.specs.Fault.{faultOf}
+use Rattle.catalogue.proofs.Faultless.{fault-zero}
+use Rattle.seat.specs.declared.State.the-variants.{Closed, Ready}
+use Rattle.seat.specs.Bits.{hasBit}
+use Rattle.seat.specs.Clinic.{Clinic, closedClinic}
+use Rattle.seat.specs.Step.{step, steps, posted}
+use Rattle.seat.specs.Count.{jobSteps}
+use Rattle.seat.proofs.Fits.{seat-fits}
+use Rattle.seat.proofs.ClinicFits.{ClinicFits}
+use Rattle.seat.proofs.StepsAdded.{steps-added, closed-stays}
+use Rattle.seat.proofs.JobSteps.{job-steps, job-choices}
+use Rattle.seat.proofs.ReadyOnce.{ready-stays}
+use Rattle.seat.proofs.ReadyJob.{ended, maskAt, job-ready-after, left-exactly}
+use Rattle.desk.specs.Room.{clinicAt}
+use Rattle.desk.specs.Call.{Call}
+use Rattle.desk.specs.Refusal.{isLeft}
+use Rattle.promises.specs.Moment.{moment, Opened}
+use Rattle.promises.proofs.SoundMoments.{opened-faultless}
+use Rattle.promises.proofs.KeptChoices.{Kept, no-choice, by-build, kept-fit, build-set, kept-dropped}
+use Rattle.promises.proofs.Lasting.{Lasting, lasts}
+
+pub data Reached (catalogue : Catalogue) (clinic : Clinic) : Type 0 where
+  blank : clinic ≡ closedClinic → Reached catalogue clinic
+  searching : (choices : List ℕ) → Kept catalogue choices → (n : ℕ) → clinic ≡ steps catalogue n (posted (catalogue .sizes) choices)
+      → Reached catalogue clinic
+
+-- a clinic whose job, under the choices in force, has ended
+pub record Ended (catalogue : Catalogue) (clinic : Clinic) : Type 0 where
+  pub choices-kept : Kept catalogue (clinic .seat .choices)
+  pub is-ended : clinic ≡ ended catalogue (clinic .seat .choices)
+
+pub mask-at-end : (catalogue : Catalogue) (clinic : Clinic) → Ended catalogue clinic → (i : ℕ)
+    → getD (clinic .seat .masks) i 0 ≡ maskAt catalogue (clinic .seat .choices) i
+mask-at-end catalogue clinic end i = ap (λ (x : Clinic). getD (x .seat .masks) i 0) (end .is-ended)
+
+module _ (catalogue : Catalogue) (fault : faultOf catalogue ≡ 0) where
+  abbrev start : List ℕ → Clinic
+  start choices = posted (catalogue .sizes) choices
+
+  -- the steps of a job after any others: its end
+  pub job-after : (choices : List ℕ) (n : ℕ)
+      → steps catalogue (jobSteps catalogue choices) (steps catalogue n (start choices)) ≡ ended catalogue choices
+  job-after choices n =
+      let K : ℕ = jobSteps catalogue choices in
+      sym (steps-added catalogue n K (start choices))
+      ∙ ap (λ (m : ℕ). steps catalogue m (start choices)) (add-comm n K)
+      ∙ steps-added catalogue K n (start choices)
+      ∙ ready-stays catalogue (ended catalogue choices) n (job-ready-after catalogue fault choices .ready)
+
+  ready-ended : (clinic : Clinic) → Reached catalogue clinic → clinic .seat .state ≡ Ready → Ended catalogue clinic
+  ready-ended clinic (blank e) ready =
+      let closed : clinic .seat .state ≡ Closed = ap (λ (x : Clinic). x .seat .state) e in
+      let z : _≡_ {A = ℕ} 0 1 = cc in
+      absurd (omega arith)
+  ready-ended clinic (searching choices kept n e) ready =
+      let same : clinic ≡ ended catalogue choices =
+      sym (ready-stays catalogue clinic (jobSteps catalogue choices) ready)
+      ∙ ap (steps catalogue (jobSteps catalogue choices)) e ∙ job-after choices n in
+      let choices-are : clinic .seat .choices ≡ choices =
+      ap (λ (x : Clinic). x .seat .choices) (same ∙ job-steps catalogue fault choices) ∙ job-choices catalogue fault choices in
+      record { choices-kept = rw choices-are kept; is-ended = same ∙ ap (ended catalogue) (sym choices-are) }
+
+  -- a job as it is posted
+  just-posted : (choices : List ℕ) → Kept catalogue choices → Reached catalogue (start choices)
+  unfolding steps
+  just-posted choices kept = searching choices kept 0 refl
+
+  step-reached : (clinic : Clinic) → Reached catalogue clinic → Reached catalogue (step catalogue clinic)
+  unfolding steps
+  step-reached clinic (blank e) = blank (ap (step catalogue) e ∙ closed-stays catalogue 1)
+  step-reached clinic (searching choices kept n e) =
+      searching choices kept (n + 1) (ap (step catalogue) e ∙ sym (steps-added catalogue n 1 (start choices)))
+
+  module _ (clinic : Clinic) (fits : ClinicFits catalogue clinic) where
+    closed-no-choice : clinic .seat .state ≡ Closed → (f : ℕ) → getD (clinic .seat .choices) f 255 ≡ 255
+    closed-no-choice closed f = go (ltb f 16) refl
+      where
+        go : (t : Bool) → ltb f 16 ≡ t → getD (clinic .seat .choices) f 255 ≡ 255
+        go true h = seat-fits catalogue (clinic .seat) (fits .fits) .state-fits .closed-empty closed f (ltb-true f 16 h) .0
+        go false h =
+            List·getD-eq-default (clinic .seat .choices) 255 (omega (arith, fits .all-choices, ltb-false f 16 h))
+
+    has-place : (i : ℕ) → i < length (catalogue .sizes) → i < length (clinic .seat .choices)
+    has-place i l = omega (arith, fits .all-choices, fault-zero catalogue fault .few-features)
+
+    chosen-kept : Ended catalogue clinic → (i a : ℕ) → i < length (catalogue .sizes) → isLeft (clinic .seat) i a ≡ true
+        → Kept catalogue (set (clinic .seat .choices) i a)
+    chosen-kept end i a l left =
+        let choices : List ℕ = clinic .seat .choices in
+        let left-at-end : hasBit (maskAt catalogue choices i) a ≡ true = rw (mask-at-end catalogue clinic end i) at left in
+        let some-build = left-exactly catalogue fault choices (kept-fit catalogue (end .choices-kept)) i a l .0 left-at-end in
+        by-build (some-build .0)
+        (build-set catalogue choices i (has-place i l) (some-build .0) (some-build .1 .is-build) a (λ chosen. some-build .1 .contains))
+
+  reached-lasts : Lasting catalogue (Reached catalogue)
+  reached-lasts = record {
+    closed = blank refl;
+    stepped = λ clinic fits reached. step-reached clinic reached;
+    entered = λ clinic fits reached closed.
+        just-posted (clinic .seat .choices) (no-choice (closed-no-choice clinic fits closed));
+    chosen = λ clinic fits reached ready i a l left.
+        just-posted (set (clinic .seat .choices) i a) (chosen-kept clinic fits (ready-ended clinic reached ready) i a l left);
+    relaxed = λ clinic fits reached ready i l.
+        just-posted (set (clinic .seat .choices) i 255)
+        (kept-dropped catalogue (clinic .seat .choices) i (has-place clinic fits i l) (ready-ended clinic reached ready .choices-kept));
+  }
+
+module _ (catalogue : Catalogue) (board : List ℕ) (opened : Opened catalogue board) (calls : List Call) (c : ℕ) (l : c < 8) where
+  abbrev here : Clinic
+  here = clinicAt (moment catalogue board calls) c
+
+  pub reached-at : Reached catalogue here
+  reached-at =
+      lasts catalogue board opened (Reached catalogue) (reached-lasts catalogue (opened-faultless catalogue board opened)) calls c l
+
+  pub ended-at : here .seat .state ≡ Ready → Ended catalogue here
+  ended-at = ready-ended catalogue (opened-faultless catalogue board opened) here reached-at

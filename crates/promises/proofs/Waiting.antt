@@ -1,0 +1,98 @@
+-- Demand 3, waiting, holds. A seat that is still at work was, by the ring's pace, asked for fewer than 8 turns for each step
+-- given and 8 more; so once 8×K turns were asked for since its posting it was given all K steps, and is ready.
+use Prim.Native.Nat.{ℕ, _+_, _*_, _≤_, _<_}
+use mathlib.Core.Path.{_≡_, refl, ap, _∙_}
+use mathlib.Core.Bool.{Bool, true, false}
+use mathlib.Core.List.{List, [], _∷_, _++_}
+use native.Mathlib.Omega.{arith}
+use lib.Dec.{ltb}
+use borrow.Author.Tests.{ltb-true, ltb-false}
+use Rattle.catalogue.specs.Catalogue.{Catalogue}
+use Rattle.catalogue.specs.Fault.{faultOf}
+use Rattle.seat.specs.declared.State.the-variants.{Ready}
+use Rattle.seat.specs.Clinic.{Clinic}
+use Rattle.seat.specs.Step.{ReadyAfter}
+use Rattle.desk.specs.Room.{Room, clinicAt}
+use Rattle.desk.specs.Call.{Call}
+use Rattle.desk.specs.Perform.{perform, opening}
+use Rattle.desk.specs.Run.{job, closed, since, afterCalls, allTurnsAsked, postsFor}
+use Rattle.desk.proofs.Sound.{Sound}
+use Rattle.desk.proofs.SoundRuns.{call-sound}
+use Rattle.desk.proofs.CallKinds.{calls-joined}
+use Rattle.desk.proofs.RingAhead.{ahead-below}
+use Rattle.promises.specs.Moment.{moment, Opened, seatIn}
+use Rattle.promises.specs.SearchState.{Stands}
+use Rattle.promises.specs.Waiting.{Waits, Waiting}
+use Rattle.promises.proofs.SoundMoments.{opened-faultless, sound-moment}
+use Rattle.promises.proofs.Standing.{job-length, in-the-search, few-given}
+use Rattle.promises.proofs.SearchState.{call-kept, search-state}
+use Rattle.promises.proofs.Pace.{Waited, calls-waited}
+
+-- after 8×K turns all steps were given
+waited-enough : (catalogue : Catalogue) (start : Clinic) (K : ℕ) → ReadyAfter catalogue start K → (c asked : ℕ) (room : Room)
+    → 8 * K ≤ asked → Waited catalogue start K c asked room → seatIn room c .state ≡ Ready
+waited-enough catalogue start K takes c asked room enough waited = go (ltb (waited .given) K) refl
+  where
+    go : (t : Bool) → ltb (waited .given) K ≡ t → seatIn room c .state ≡ Ready
+    go true e =
+        let pace = waited .in-pace (ltb-true (waited .given) K e) in
+        let l = ltb-true (waited .given) K e in
+        absurd (omega arith)
+    go false e =
+        let most = ltb-false (waited .given) K e in
+        let few = few-given K takes (waited .stands) in
+        let all : waited .given ≡ K = omega arith in
+        ap (λ (x : Clinic). x .seat .state) (rw all at (in-the-search (waited .stands))) ∙ takes .ready
+
+module _
+    (catalogue : Catalogue)
+    (board : List ℕ)
+    (opens : Opened catalogue board)
+    (before : List Call)
+    (post : Call)
+    (c : ℕ)
+    (below : c < 8)
+    (posts : postsFor c post ≡ true)
+    (taken : perform catalogue post (moment catalogue board before) .answer .number ≡ 0)
+  where
+    abbrev posting : Room
+    posting = perform catalogue post (moment catalogue board before) .room
+
+    fault : faultOf catalogue ≡ 0
+    fault = opened-faultless catalogue board opens
+
+    posting-sound : Sound catalogue posting
+    posting-sound = call-sound catalogue fault (moment catalogue board before) (sound-moment catalogue board opens before) post
+
+    just-posted : Stands catalogue (clinicAt posting c) (job (clinicAt posting c) 0)
+    just-posted =
+        rw (posts, taken) at
+        (call-kept catalogue fault c (moment catalogue board before) (sound-moment catalogue board opens before)
+        (since catalogue c before (opening catalogue board .room) closed) (search-state catalogue board opens before c below) post)
+
+    after-posting : (after : List Call) → moment catalogue board (before ++ post ∷ after) ≡ afterCalls catalogue after posting
+    unfolding moment afterCalls
+    after-posting after = calls-joined catalogue before (post ∷ after) (opening catalogue board .room)
+
+    waits : Waits catalogue board before post c
+    unfolding afterCalls
+    waits =
+        let K = job-length just-posted .0 in
+        let takes = job-length just-posted .1 in
+        record {
+          K = K;
+          takes-K = rw (after-posting []) takes;
+          ready-in-time = λ (after : List Call) others enough.
+              rw (after-posting after)
+              (waited-enough catalogue (clinicAt posting c) K takes c (0 + allTurnsAsked after)
+              (afterCalls catalogue after posting) (omega arith)
+              (calls-waited catalogue fault (clinicAt posting c) K takes c below others 0 posting posting-sound
+              (record {
+                given = 0;
+                stands = just-posted;
+                in-pace = λ (l : 0 < K). omega (arith, ahead-below (posting .desk .next) c);
+              })));
+        }
+
+pub waiting : Waiting
+waiting = waits
