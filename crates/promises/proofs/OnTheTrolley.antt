@@ -1,5 +1,6 @@
 -- Each statement of specs/ is about something: on the trolley its premises hold, by computation, and what it then says is
--- a plain fact about a run that can be made. None of these proves a demand; each takes one and puts it to use.
+-- a plain fact about a run that can be made. Each takes a demand and puts it to use; the last lines hand them the demands
+-- as proved.
 use Prim.Native.Nat.{ℕ, zero, suc, _*_, _≤_, _<_}
 use mathlib.Core.Path.{_≡_, refl}
 use mathlib.Core.Logic.{_↔_}
@@ -30,8 +31,14 @@ use Rattle.promises.specs.Waiting.{Waiting}
 use Rattle.promises.specs.SearchState.{SearchState, Stands, blank, searching}
 use Rattle.promises.specs.TwoRuns.{TwoRuns}
 use Rattle.promises.specs.InARun.{EveryRun}
+use Rattle.promises.proofs.Refusals.{refusals as proved-refusals}
+use Rattle.promises.proofs.OptionsLeft.{options-left as proved-options-left}
+use Rattle.promises.proofs.Waiting.{waiting as proved-waiting}
+use Rattle.promises.proofs.SearchState.{search-state as proved-search-state}
+use Rattle.promises.proofs.TwoRuns.{two-runs as proved-two-runs}
+use Rattle.promises.proofs.InARun.{every-run as proved-every-run}
 
-board : List ℕ
+pub board : List ℕ
 board = replicate 32768 7
 
 opens : Opened trolley board
@@ -44,7 +51,7 @@ unfolding board computing moment
 refusals demand = demand .by-the-table trolley (enter 9) (moment trolley board []) 30 .1 (next (next (next (this (λ e. omega arith)))))
 
 -- Demand 2: 100 is a build, so that option 1 of feature 0 is left once seat 0 is ready.
-ready : List Call
+pub ready : List Call
 ready = enter 0 ∷ turns 39 ∷ []
 
 build-100 : List ℕ
@@ -84,7 +91,7 @@ options-left demand =
     rw (shown .options-answer) (shown .left-exactly 1 .1 (build-100, is-build))
 
 -- Demand 3: of eight seats at work the last is ready after 8 × 39 turns.
-seven : List Call
+pub seven : List Call
 seven = enter 0 ∷ enter 1 ∷ enter 2 ∷ enter 3 ∷ enter 4 ∷ enter 5 ∷ enter 6 ∷ []
 
 waiting : Waiting → (K : ℕ) × (8 * K ≤ 312 → seatIn (moment trolley board (seven ++ enter 7 ∷ turns 312 ∷ [])) 7 .state ≡ Ready)
@@ -94,7 +101,7 @@ waiting demand =
     (waits .K, waits .ready-in-time (turns 312 ∷ []) (also refl none))
 
 -- After five turns seat 3 stands where the written search stands after five steps.
-begun : List Call
+pub begun : List Call
 begun = enter 3 ∷ turns 5 ∷ []
 
 in-a-search : {clinic start : Clinic} {given : ℕ} → Stands trolley clinic (job start given) → clinic ≡ steps trolley given start
@@ -105,7 +112,7 @@ unfolding board begun computing moment
 search-state demand = in-a-search {start = posted (trolley .sizes) nothing16} {given = 5} (demand trolley board opens begun 3 (lit< tt))
 
 -- Seat 3 alone, and seat 3 beside seat 5: the same calls, five steps after them.
-beside : List Call
+pub beside : List Call
 beside = enter 5 ∷ enter 3 ∷ turns 10 ∷ options 5 0 ∷ []
 
 two-runs : TwoRuns → clinicAt (moment trolley board begun) 3 ≡ clinicAt (moment trolley board beside) 3
@@ -113,9 +120,29 @@ unfolding board begun beside computing moment
 two-runs demand = demand trolley board board opens opens begun beside 3 (lit< tt) refl .1
 
 -- The chosen option alone is left.
-chosen : List Call
+pub chosen : List Call
 chosen = ready ++ choose 0 2 0 ∷ turns 40 ∷ []
 
 choice-alone : EveryRun → (a : ℕ) → (hasBit (getD (seatIn (moment trolley board chosen) 0 .masks) 2 0) a ≡ true) ↔ (a ≡ 0)
 unfolding board ready chosen computing moment
 choice-alone demand = demand trolley board opens chosen 0 (lit< tt) .choice-alone refl 2 0 (lit< tt) refl (λ e. omega arith)
+
+-- ---- and so, of the trolley
+
+pub no-seat-9 : perform trolley (enter 9) (moment trolley board []) .answer .number ≡ 30
+no-seat-9 = refusals proved-refusals
+
+pub option-1-left : hasBit (perform trolley (options 0 0) (moment trolley board ready) .answer .mask) 1 ≡ true
+option-1-left = options-left proved-options-left
+
+pub last-of-eight : (K : ℕ) × (8 * K ≤ 312 → seatIn (moment trolley board (seven ++ enter 7 ∷ turns 312 ∷ [])) 7 .state ≡ Ready)
+last-of-eight = waiting proved-waiting
+
+pub five-steps : clinicAt (moment trolley board begun) 3 ≡ steps trolley 5 (posted (trolley .sizes) nothing16)
+five-steps = search-state proved-search-state
+
+pub quiet-and-crowded : clinicAt (moment trolley board begun) 3 ≡ clinicAt (moment trolley board beside) 3
+quiet-and-crowded = two-runs proved-two-runs
+
+pub chosen-alone : (a : ℕ) → (hasBit (getD (seatIn (moment trolley board chosen) 0 .masks) 2 0) a ≡ true) ↔ (a ≡ 0)
+chosen-alone = choice-alone proved-every-run
