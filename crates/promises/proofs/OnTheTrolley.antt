@@ -17,7 +17,9 @@ use Rattle.catalogue.proofs.Padded.{nothing-there}
 use Rattle.seat.specs.declared.State.the-variants.{Ready}
 use Rattle.seat.specs.Bits.{hasBit}
 use Rattle.seat.specs.Clinic.{Clinic, nothing16}
-use Rattle.seat.specs.Step.{steps, posted}
+use Rattle.seat.specs.Step.{steps, posted, ReadyAfter}
+use Rattle.seat.proofs.ReadyOnce.{ready-once}
+use Rattle.seat.proofs.ReadyJob.{job-ready-after}
 use Rattle.desk.specs.Room.{clinicAt}
 use Rattle.desk.specs.Call.{Call, enter, choose, options, turns}
 use Rattle.desk.specs.Perform.{perform}
@@ -94,11 +96,16 @@ options-left demand =
 pub seven : List Call
 seven = enter 0 ∷ enter 1 ∷ enter 2 ∷ enter 3 ∷ enter 4 ∷ enter 5 ∷ enter 6 ∷ []
 
-waiting : Waiting → (K : ℕ) × (8 * K ≤ 312 → seatIn (moment trolley board (seven ++ enter 7 ∷ turns 312 ∷ [])) 7 .state ≡ Ready)
+takes-39 : (K : ℕ) → ReadyAfter trolley (clinicAt (moment trolley board (seven ++ enter 7 ∷ [])) 7) K → K ≡ 39
+unfolding board seven computing moment
+takes-39 K takes = ready-once trolley (posted (trolley .sizes) nothing16) K 39 takes (job-ready-after trolley refl nothing16)
+
+waiting : Waiting → seatIn (moment trolley board (seven ++ enter 7 ∷ turns 312 ∷ [])) 7 .state ≡ Ready
 unfolding board seven computing moment
 waiting demand =
     let waits = demand trolley board opens seven (enter 7) 7 (lit< tt) refl refl in
-    (waits .K, waits .ready-in-time (turns 312 ∷ []) (also refl none))
+    let few : 8 * waits .K ≤ 312 = omega (arith, takes-39 (waits .K) (waits .takes-K)) in
+    waits .ready-in-time (turns 312 ∷ []) (also refl none) few
 
 -- After five turns seat 3 stands where the written search stands after five steps.
 pub begun : List Call
@@ -135,7 +142,7 @@ no-seat-9 = refusals proved-refusals
 pub option-1-left : hasBit (perform trolley (options 0 0) (moment trolley board ready) .answer .mask) 1 ≡ true
 option-1-left = options-left proved-options-left
 
-pub last-of-eight : (K : ℕ) × (8 * K ≤ 312 → seatIn (moment trolley board (seven ++ enter 7 ∷ turns 312 ∷ [])) 7 .state ≡ Ready)
+pub last-of-eight : seatIn (moment trolley board (seven ++ enter 7 ∷ turns 312 ∷ [])) 7 .state ≡ Ready
 last-of-eight = waiting proved-waiting
 
 pub five-steps : clinicAt (moment trolley board begun) 3 ≡ steps trolley 5 (posted (trolley .sizes) nothing16)
