@@ -15,4 +15,5 @@ pub mod KeptChoices
 pub mod Reached
 pub mod OptionsLeft
 pub mod InARun
+pub mod LastJob
 pub mod OnTheTrolley

@@ -3,6 +3,7 @@
 -- example calls for a ready seat are answered out of its masks and share.
 use Prim.Native.Nat.{ℕ, zero, suc, _<_}
 use mathlib.Core.Path.{_≡_, refl, ap, _∙_}
+use mathlib.Core.Logic.{_↔_}
 use mathlib.Core.Bool.{Bool, true, false, not}
 use mathlib.Core.List.{List, [], _∷_}
 use native.Mathlib.Omega.{arith}
@@ -11,20 +12,23 @@ use borrow.Author.Tests.{lt-ltb, le-ltb}
 use Rattle.catalogue.specs.Catalogue.{Catalogue, sizeOf}
 use Rattle.catalogue.specs.Checks.{when, first}
 use Rattle.catalogue.specs.Fault.{faultOf, member}
+use Rattle.catalogue.specs.Rule.{optionAt}
+use Rattle.catalogue.specs.Gic.{Gic}
 use Rattle.seat.specs.declared.State.the-variants.{Ready}
+use Rattle.seat.specs.Bits.{hasBit}
 use Rattle.seat.specs.Clinic.{Clinic, exampleIn}
 use Rattle.seat.proofs.Fitting.{ChoicesFit}
 use Rattle.seat.proofs.PlaceBounds.{few-features, size-within}
 use Rattle.seat.proofs.ReadyJob as ready-job
 use Rattle.desk.specs.Room.{Room, shareAt, clinicAt}
-use Rattle.desk.specs.Call.{options, example, refused}
+use Rattle.desk.specs.Call.{Call, options, example, refused, Answer}
 use Rattle.desk.specs.Refusal.{isLeft, refusal}
 use Rattle.desk.specs.Perform.{Outcome, optionsAnswer, exampleAnswer, done, perform, opening}
 use Rattle.desk.proofs.Sound.{Sound}
 use Rattle.desk.proofs.ChecksPassed.{checks-passed}
 use Rattle.desk.proofs.Performed.{perform-accepted, perform-refused}
 use Rattle.promises.specs.Moment.{moment, Opened, seatIn}
-use Rattle.promises.specs.OptionsLeft.{Shown, OptionsLeft}
+use Rattle.promises.specs.OptionsLeft.{Shown, OptionsLeft, GloballyConsistent}
 use Rattle.promises.proofs.SoundMoments.{opened-faultless, sound-moment}
 use Rattle.promises.proofs.RefusedOpening.{never-ready}
 use Rattle.promises.proofs.KeptChoices.{kept-fit}
@@ -123,3 +127,30 @@ options-left catalogue board calls c seat-below ready i feature = go (opening ca
         (ended-at catalogue board opened calls c seat-below ready)
     go (suc r) refusal-is =
         absurd (never-ready catalogue board (λ (opened : Opened catalogue board). omega (arith, opened, refusal-is)) calls c ready)
+
+module _
+    (catalogue : Catalogue)
+    (board : List ℕ)
+    (calls : List Call)
+    (c : ℕ)
+    (seat-below : c < 8)
+    (ready : seatIn (moment catalogue board calls) c .state ≡ Ready)
+  where
+    abbrev here : Room
+    here = moment catalogue board calls
+
+    gic-exactly : (i a : ℕ) → i < length (catalogue .sizes)
+        → (hasBit (perform catalogue (options c i) here .answer .mask) a ≡ true) ↔ Gic catalogue (seatIn here c .choices) i a
+    gic-exactly i a feature =
+        let seen = options-left catalogue board calls c seat-below ready i feature in
+        let answered : perform catalogue (options c i) here .answer .mask ≡ seen .mask =
+        ap (λ (answer : Answer). answer .mask) (seen .options-answer) in
+        rw answered (seen .left-exactly a)
+
+pub globally-consistent : GloballyConsistent
+globally-consistent catalogue board calls c seat-below ready = record {
+  exactly = gic-exactly catalogue board calls c seat-below ready;
+  same-solutions = λ build is-build i feature.
+      gic-exactly catalogue board calls c seat-below ready i (optionAt build i) feature .1
+      (build, record { is-build = is-build; contains = refl });
+}

@@ -6,4 +6,5 @@ pub mod Waiting
 pub mod SearchState
 pub mod TwoRuns
 pub mod InARun
+pub mod LastJob
 pub mod Frame

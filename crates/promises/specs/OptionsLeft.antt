@@ -9,6 +9,7 @@ use mathlib.Core.List.{List}
 use lib.ListN.{length, replicate}
 use Rattle.catalogue.specs.Catalogue.{Catalogue, sizeOf}
 use Rattle.catalogue.specs.Build.{BuildWith, FirstWith, padded}
+use Rattle.catalogue.specs.Gic.{GicClosure}
 use Rattle.seat.specs.declared.State.the-variants.{Ready}
 use Rattle.seat.specs.Bits.{hasBit}
 use Rattle.seat.specs.Clinic.{exampleIn}
@@ -36,3 +37,12 @@ OptionsLeft =
     → seatIn (moment catalogue board calls) c .state ≡ Ready
     → (i : ℕ) → i < length (catalogue .sizes)
     → Shown catalogue (moment catalogue board calls) c i
+
+-- "This is global inverse consistency as Bessiere, Fargier and Lecoutre define it": what the options calls answer to a
+-- ready seat is the GIC closure of the catalogue under the choices in force.
+abbrev pub GloballyConsistent : Type 0
+GloballyConsistent =
+    (catalogue : Catalogue) (board : List ℕ) (calls : List Call) (c : ℕ) → c < 8
+    → seatIn (moment catalogue board calls) c .state ≡ Ready
+    → GicClosure catalogue (seatIn (moment catalogue board calls) c .choices)
+    (λ (i a : ℕ). hasBit (perform catalogue (options c i) (moment catalogue board calls) .answer .mask) a)
