@@ -2,7 +2,7 @@
 -- a plain fact about a run that can be made. Each takes a demand and puts it to use; the last lines hand them the demands
 -- as proved.
 use Prim.Native.Nat.{ℕ, zero, suc, _*_, _≤_, _<_}
-use mathlib.Core.Path.{_≡_, refl}
+use mathlib.Core.Path.{_≡_, refl, ap, _∙_}
 use mathlib.Core.Logic.{_↔_}
 use mathlib.Core.Bool.{true}
 use mathlib.Core.List.{List, [], _∷_, _++_}
@@ -33,12 +33,17 @@ use Rattle.promises.specs.Waiting.{Waiting}
 use Rattle.promises.specs.SearchState.{SearchState, Stands, blank, searching}
 use Rattle.promises.specs.TwoRuns.{TwoRuns}
 use Rattle.promises.specs.InARun.{EveryRun}
+use Rattle.promises.specs.LastJob.{LastJob}
+use Rattle.promises.specs.Frame.{Frame, Whole}
 use Rattle.promises.proofs.Refusals.{refusals as proved-refusals}
 use Rattle.promises.proofs.OptionsLeft.{options-left as proved-options-left}
 use Rattle.promises.proofs.Waiting.{waiting as proved-waiting}
 use Rattle.promises.proofs.SearchState.{search-state as proved-search-state}
 use Rattle.promises.proofs.TwoRuns.{two-runs as proved-two-runs}
 use Rattle.promises.proofs.InARun.{every-run as proved-every-run}
+use Rattle.promises.proofs.LastJob.{last-job as proved-last-job}
+use Rattle.promises.proofs.Frame.{frame as proved-frame}
+use Rattle.promises.proofs.SoundMoments.{sound-moment}
 
 pub board : List ℕ
 board = replicate 32768 7
@@ -96,9 +101,13 @@ options-left demand =
 pub seven : List Call
 seven = enter 0 ∷ enter 1 ∷ enter 2 ∷ enter 3 ∷ enter 4 ∷ enter 5 ∷ enter 6 ∷ []
 
+all-39 : (K : ℕ) → ReadyAfter trolley (posted (trolley .sizes) nothing16) K → K ≡ 39
+unfolding computing
+all-39 K takes = ready-once trolley (posted (trolley .sizes) nothing16) K 39 takes (job-ready-after trolley refl nothing16)
+
 takes-39 : (K : ℕ) → ReadyAfter trolley (clinicAt (moment trolley board (seven ++ enter 7 ∷ [])) 7) K → K ≡ 39
 unfolding board seven computing moment
-takes-39 K takes = ready-once trolley (posted (trolley .sizes) nothing16) K 39 takes (job-ready-after trolley refl nothing16)
+takes-39 K takes = all-39 K takes
 
 waiting : Waiting → seatIn (moment trolley board (seven ++ enter 7 ∷ turns 312 ∷ [])) 7 .state ≡ Ready
 unfolding board seven computing moment
@@ -134,6 +143,39 @@ choice-alone : EveryRun → (a : ℕ) → (hasBit (getD (seatIn (moment trolley 
 unfolding board ready chosen computing moment
 choice-alone demand = demand trolley board opens chosen 0 (lit< tt) .choice-alone refl 2 0 (lit< tt) refl (λ e. omega arith)
 
+-- No call is given number 20, and the seat that is ready after 39 turns is at the end of a job of 39 steps under no choice.
+never-20 : LastJob → (call : Call) → perform trolley call (moment trolley board chosen) .answer .number ≡ 20 → ⊥
+never-20 demand call = demand .numbers trolley board chosen call .never-20 opens
+
+no-choice : seatIn (moment trolley board ready) 0 .choices ≡ nothing16
+unfolding board ready computing moment
+no-choice = refl
+
+last-job : LastJob → clinicAt (moment trolley board ready) 0 ≡ steps trolley 39 (posted (trolley .sizes) nothing16)
+last-job demand =
+    let done = demand .ready-done trolley board opens ready 0 (lit< tt) is-ready in
+    let takes : ReadyAfter trolley (posted (trolley .sizes) nothing16) (done .K) = rw no-choice at (done .takes-K) in
+    let all : done .K ≡ 39 = all-39 (done .K) takes in
+    done .is-its-end ∙ ap (λ (choices : List ℕ). steps trolley (done .K) (posted (trolley .sizes) choices)) no-choice
+    ∙ ap (λ (K : ℕ). steps trolley K (posted (trolley .sizes) nothing16)) all
+
+-- Entering seat 5 leaves seat 3, in the middle of its search, as it was.
+whole : Whole (moment trolley board begun)
+whole =
+    let sound = sound-moment trolley board opens begun in
+    record {
+      eight = sound .eight;
+      choices-length = λ c below. sound .clinics-fit c below .all-choices;
+      masks-length = λ c below. sound .clinics-fit c below .all-masks;
+      trial-length = λ c below. sound .clinics-fit c below .all-entries;
+      board-length = sound .board-length;
+    }
+
+frame : Frame → clinicAt (perform trolley (enter 5) (moment trolley board begun) .room) 3 ≡ clinicAt (moment trolley board begun) 3
+frame demand =
+    demand .calls-stay trolley (enter 5) (moment trolley board begun) whole
+    (λ (e : 5 ∷ [] ≡ []). let one : 1 ≡ 0 = ap length e in omega (arith, one)) 3 (lit< tt) refl .0
+
 -- ---- and so, of the trolley
 
 pub no-seat-9 : perform trolley (enter 9) (moment trolley board []) .answer .number ≡ 30
@@ -153,3 +195,12 @@ quiet-and-crowded = two-runs proved-two-runs
 
 pub chosen-alone : (a : ℕ) → (hasBit (getD (seatIn (moment trolley board chosen) 0 .masks) 2 0) a ≡ true) ↔ (a ≡ 0)
 chosen-alone = choice-alone proved-every-run
+
+pub never-given-20 : (call : Call) → perform trolley call (moment trolley board chosen) .answer .number ≡ 20 → ⊥
+never-given-20 = never-20 proved-last-job
+
+pub ready-after-39 : clinicAt (moment trolley board ready) 0 ≡ steps trolley 39 (posted (trolley .sizes) nothing16)
+ready-after-39 = last-job proved-last-job
+
+pub seat-3-stays : clinicAt (perform trolley (enter 5) (moment trolley board begun) .room) 3 ≡ clinicAt (moment trolley board begun) 3
+seat-3-stays = frame proved-frame
