@@ -8,8 +8,8 @@ use Rattle.desk.specs.declared.answers.Changed.{Changed}
 use Rattle.desk.specs.declared.answers.Left.{Left}
 use Rattle.desk.specs.declared.answers.Turned.{Turned}
 use Rattle.desk.specs.Room.{Room}
-use Rattle.desk.specs.Call.{enter, leave, choose, relax, options, example, turns, refused}
-use Rattle.desk.specs.Answers.{leftAnswer, turnedOutcome}
+use Rattle.desk.specs.Call.{enter, leave, choose, relax, options, example, turns}
+use Rattle.desk.specs.Answers.{ChangesTo, ReadsAs, TurnsTo}
 use Rattle.desk.specs.Perform.{Outcome, perform, opening}
 
 -- of a result that a contract speaks of alone, and of a result with the board at exit
@@ -19,17 +19,6 @@ Settled {R} contract = (r₁ r₂ : R) → contract r₁ → contract r₂ → r
 abbrev pub SettledWithBoard : {R : Type 0} → (R → List ℕ → Type 0) → Type 0
 SettledWithBoard {R} contract =
     (r₁ r₂ : R) (b₁ b₂ : List ℕ) → contract r₁ b₁ → contract r₂ b₂ → (r₁ ≡ r₂) × (b₁ ≡ b₂)
-
--- what the contracts of open, enter, leave, choose and relax say, then that of options, then that of turns
-abbrev pub ChangesTo : Outcome → Changed → List ℕ → Type 0
-ChangesTo outcome r board =
-    record { answer = refused (r .number); room = record { desk = r .desk; board = board } } ≡ outcome
-
-abbrev pub ReadsAs : Outcome → Room → Left → Type 0
-ReadsAs outcome room r = record { answer = leftAnswer r; room = room } ≡ outcome
-
-abbrev pub TurnsTo : Outcome → Turned → List ℕ → Type 0
-TurnsTo outcome r board = turnedOutcome r board ≡ outcome
 
 one-value : {R : Type 0} (value : R) → Settled (λ (r : R). r ≡ value)
 one-value value r₁ r₂ e₁ e₂ = e₁ ∙ sym e₂

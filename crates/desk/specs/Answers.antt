@@ -1,14 +1,17 @@
 -- The answers of the code as the definitions have them.
 use Prim.Native.Nat.{ℕ, zero, suc}
+use mathlib.Core.Path.{_≡_}
 use mathlib.Core.Bool.{Bool, false, cond}
 use mathlib.Core.List.{List, []}
 use mathlib.Core.Option.{Option, none, some}
 use lib.ListN.{getD}
+use Rattle.desk.specs.declared.answers.Changed.{Changed}
 use Rattle.desk.specs.declared.answers.Left.{Left}
 use Rattle.desk.specs.declared.answers.Turned.{Turned}
 use Rattle.desk.specs.declared.ring.Found.{Found}
 use Rattle.desk.specs.declared.ring.Found.the-variants.{At, Nobody}
-use Rattle.desk.specs.Call.{Answer}
+use Rattle.desk.specs.Room.{Room}
+use Rattle.desk.specs.Call.{Answer, refused}
 use Rattle.desk.specs.Turn.{seatAfter}
 use Rattle.desk.specs.Perform.{Outcome}
 
@@ -22,6 +25,18 @@ turnedOutcome turned board =
       answer = record { number = turned .number; mask = 0; count = 0; bytes = []; made = turned .made; working = turned .working };
       room = record { desk = turned .desk; board = board };
     }
+
+-- What the contracts say: answer, desk and board at the end of a call are those of an outcome. Of open, enter, leave, choose
+-- and relax; of options, which leaves desk and board as they are; of turns.
+abbrev pub ChangesTo : Outcome → Changed → List ℕ → Type 0
+ChangesTo outcome changed board =
+    record { answer = refused (changed .number); room = record { desk = changed .desk; board = board } } ≡ outcome
+
+abbrev pub ReadsAs : Outcome → Room → Left → Type 0
+ReadsAs outcome room left = record { answer = leftAnswer left; room = room } ≡ outcome
+
+abbrev pub TurnsTo : Outcome → Turned → List ℕ → Type 0
+TurnsTo outcome turned board = turnedOutcome turned board ≡ outcome
 
 abbrev pub foundOf : Found → Option ℕ
 foundOf (At c) = some c

@@ -10,13 +10,14 @@ use seat::Seat;
 ghost use mathlib.Core.Path.{_≡_};
 ghost use Prim.Native.Nat.{_<_};
 ghost use lib.ListN.{set};
-ghost use Rattle.desk.specs.Call.{enter, leave, choose, relax, refused};
+ghost use Rattle.desk.specs.Call.{enter, leave, choose, relax};
+ghost use Rattle.desk.specs.Answers.{ChangesTo};
 ghost use Rattle.desk.specs.Room.{freshDesk};
 ghost use Rattle.desk.specs.Perform.{perform, opening};
 
 // The board filled with 255, all seats closed, next seat 0.
 pub fn open(board: &mut [u8], sizes: &[u8], rules: &[u16]) -> Changed
-    ensures { λ r. ⌜ record { answer = refused (r .number); room = record { desk = r .desk; board = now (board .exit) } } ≡ opening (record { sizes = now (sizes .entry); list = now (rules .entry) }) (now (board .entry)) ⌝ }
+    ensures { λ r. ⌜ ChangesTo (opening (record { sizes = now (sizes .entry); list = now (rules .entry) }) (now (board .entry))) r (now (board .exit)) ⌝ }
 {
     let number = open_number(board.len(), sizes, rules);
     if number == 0 {
@@ -30,7 +31,7 @@ pub fn open(board: &mut [u8], sizes: &[u8], rules: &[u16]) -> Changed
 
 // The closed seat gets a job.
 pub fn enter(desk: Desk, board: &mut [u8], sizes: &[u8], rules: &[u16], c: usize) -> Changed
-    ensures { λ r. ⌜ record { answer = refused (r .number); room = record { desk = r .desk; board = now (board .exit) } } ≡ perform (record { sizes = now (sizes .entry); list = now (rules .entry) }) (enter c) (record { desk = desk; board = now (board .entry) }) ⌝ }
+    ensures { λ r. ⌜ ChangesTo (perform (record { sizes = now (sizes .entry); list = now (rules .entry) }) (enter c) (record { desk = desk; board = now (board .entry) })) r (now (board .exit)) ⌝ }
 {
     let number = enter_number(desk, board.len(), sizes, rules, c);
     if number != 0 {
@@ -48,7 +49,7 @@ pub fn enter(desk: Desk, board: &mut [u8], sizes: &[u8], rules: &[u16], c: usize
 
 // An open seat, ready or at work, becomes closed.
 pub fn leave(desk: Desk, board: &mut [u8], sizes: &[u8], rules: &[u16], c: usize) -> Changed
-    ensures { λ r. ⌜ record { answer = refused (r .number); room = record { desk = r .desk; board = now (board .exit) } } ≡ perform (record { sizes = now (sizes .entry); list = now (rules .entry) }) (leave c) (record { desk = desk; board = now (board .entry) }) ⌝ }
+    ensures { λ r. ⌜ ChangesTo (perform (record { sizes = now (sizes .entry); list = now (rules .entry) }) (leave c) (record { desk = desk; board = now (board .entry) })) r (now (board .exit)) ⌝ }
 {
     let number = leave_number(desk, board.len(), sizes, rules, c);
     if number != 0 {
@@ -73,7 +74,7 @@ pub fn choose(
     i: usize,
     a: usize,
 ) -> Changed
-    ensures { λ r. ⌜ record { answer = refused (r .number); room = record { desk = r .desk; board = now (board .exit) } } ≡ perform (record { sizes = now (sizes .entry); list = now (rules .entry) }) (choose c i a) (record { desk = desk; board = now (board .entry) }) ⌝ }
+    ensures { λ r. ⌜ ChangesTo (perform (record { sizes = now (sizes .entry); list = now (rules .entry) }) (choose c i a) (record { desk = desk; board = now (board .entry) })) r (now (board .exit)) ⌝ }
 {
     let number = choose_number(desk, board.len(), sizes, rules, c, i, a);
     if number != 0 {
@@ -99,7 +100,7 @@ pub fn relax(
     c: usize,
     i: usize,
 ) -> Changed
-    ensures { λ r. ⌜ record { answer = refused (r .number); room = record { desk = r .desk; board = now (board .exit) } } ≡ perform (record { sizes = now (sizes .entry); list = now (rules .entry) }) (relax c i) (record { desk = desk; board = now (board .entry) }) ⌝ }
+    ensures { λ r. ⌜ ChangesTo (perform (record { sizes = now (sizes .entry); list = now (rules .entry) }) (relax c i) (record { desk = desk; board = now (board .entry) })) r (now (board .exit)) ⌝ }
 {
     let number = relax_number(desk, board.len(), sizes, rules, c, i);
     if number != 0 {

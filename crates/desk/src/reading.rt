@@ -5,12 +5,12 @@ use crate::checks::example_refusal;
 use crate::checks::options_number;
 ghost use mathlib.Core.Path.{_≡_};
 ghost use Rattle.desk.specs.Call.{options, example};
-ghost use Rattle.desk.specs.Answers.{leftAnswer};
+ghost use Rattle.desk.specs.Answers.{ReadsAs};
 ghost use Rattle.desk.specs.Perform.{perform};
 
 // The mask of one feature and how many bits are set in it.
 pub fn options(desk: Desk, board: &[u8], sizes: &[u8], rules: &[u16], c: usize, i: usize) -> Left
-    ensures { λ r. ⌜ record { answer = leftAnswer r; room = record { desk = desk; board = now (board .entry) } } ≡ perform (record { sizes = now (sizes .entry); list = now (rules .entry) }) (options c i) (record { desk = desk; board = now (board .entry) }) ⌝ }
+    ensures { λ r. ⌜ ReadsAs (perform (record { sizes = now (sizes .entry); list = now (rules .entry) }) (options c i) (record { desk = desk; board = now (board .entry) })) (record { desk = desk; board = now (board .entry) }) r ⌝ }
 {
     let number = options_number(desk, board.len(), sizes, rules, c, i);
     if number != 0 {

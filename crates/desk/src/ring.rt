@@ -12,7 +12,7 @@ ghost use lib.ListN.{length};
 ghost use Rattle.catalogue.specs.Fault.{faultOf};
 ghost use Rattle.seat.specs.declared.Seat.{Seat};
 ghost use Rattle.desk.specs.Call.{turns};
-ghost use Rattle.desk.specs.Answers.{turnedOutcome, foundOf, trueFrom};
+ghost use Rattle.desk.specs.Answers.{TurnsTo, foundOf, trueFrom};
 ghost use Rattle.desk.specs.Fit.{deskFits};
 ghost use Rattle.desk.specs.Perform.{perform, done};
 ghost use Rattle.desk.specs.Turn.{isAtWork, isSome};
@@ -25,7 +25,7 @@ pub enum Found {
 
 // w turns, or fewer when no seat is at work.
 pub fn turns(desk: Desk, board: &mut [u8], sizes: &[u8], rules: &[u16], w: u16) -> Turned
-    ensures { λ r. ⌜ turnedOutcome r (now (board .exit)) ≡ perform (record { sizes = now (sizes .entry); list = now (rules .entry) }) (turns w) (record { desk = desk; board = now (board .entry) }) ⌝ }
+    ensures { λ r. ⌜ TurnsTo (perform (record { sizes = now (sizes .entry); list = now (rules .entry) }) (turns w) (record { desk = desk; board = now (board .entry) })) r (now (board .exit)) ⌝ }
 {
     let number = turns_number(desk, board.len(), sizes, rules);
     if number != 0 {
@@ -43,7 +43,7 @@ pub fn turns(desk: Desk, board: &mut [u8], sizes: &[u8], rules: &[u16], w: u16) 
 fn make_turns(desk: Desk, board: &mut [u8], sizes: &[u8], rules: &[u16], w: u16) -> Turned
     requires { ⌜ (length (now board) ≡ 32768) × (faultOf (record { sizes = now sizes; list = now rules }) ≡ 0) ⌝ }
     requires { ⌜ deskFits (record { sizes = now sizes; list = now rules }) desk ≡ true ⌝ }
-    ensures { λ r. ⌜ turnedOutcome r (now (board .exit)) ≡ done (record { sizes = now (sizes .entry); list = now (rules .entry) }) (turns w) (record { desk = desk; board = now (board .entry) }) ⌝ }
+    ensures { λ r. ⌜ TurnsTo (done (record { sizes = now (sizes .entry); list = now (rules .entry) }) (turns w) (record { desk = desk; board = now (board .entry) })) r (now (board .exit)) ⌝ }
 {
     let starts = catalogue::starts_of(rules);
     let places = starts.places;
