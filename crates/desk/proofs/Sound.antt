@@ -21,9 +21,9 @@ use Rattle.seat.proofs.ClinicFits.{ClinicFits, closed-fits}
 use Rattle.seat.proofs.StepFits.{step-fits}
 use Rattle.desk.specs.Room.{Room, seatAt, clinicAt, withClinic, freshDesk, emptyBoard}
 use Rattle.desk.specs.Fit.{deskFits}
-use Rattle.desk.specs.Turn.{seatAfter, served, turnFor, turn, afterTurns}
+use Rattle.desk.specs.Turn.{served, turnFor, turn, afterTurns}
 use Rattle.desk.proofs.WithClinic.{share-length, fresh-clinic, with-eight, with-board-length, with-same, with-other}
-use Rattle.desk.proofs.Served.{after-below, served-found}
+use Rattle.desk.proofs.Served.{served-found}
 
 pub record Sound (catalogue : Catalogue) (room : Room) : Type 0 where
   pub eight : length (room .desk .seats) ≡ 8
@@ -105,7 +105,7 @@ module _ (catalogue : Catalogue) (fault : faultOf catalogue ≡ 0) where
       go none e = sound
       go (some c) e =
           let here = served-found (room .desk) (sound .next-below) c e in
-          with-clinic-sound catalogue room sound c (seatAfter c) (here .below) (after-below c) (step catalogue (clinicAt room c))
+          with-clinic-sound catalogue room sound c _ (here .below) (omega arith) (step catalogue (clinicAt room c))
           (step-fits catalogue fault (clinicAt room c) (sound .clinics-fit c (here .below)))
 
   pub turns-sound : (w : ℕ) (room : Room) → Sound catalogue room → Sound catalogue (afterTurns catalogue w room)
