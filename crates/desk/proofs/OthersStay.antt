@@ -15,7 +15,7 @@ use Rattle.seat.specs.Step.{step, posted}
 use Rattle.seat.proofs.StepFits.{step-fits}
 use Rattle.desk.specs.Room.{Room, clinicAt, withClinic}
 use Rattle.desk.specs.Call.{Call, enter, leave, choose, relax, options, example, turns, numbersOf, isOf}
-use Rattle.desk.specs.Turn.{seatAfter, served, turn}
+use Rattle.desk.specs.Turn.{seatAfter, served, turnFor, turn}
 use Rattle.desk.specs.Refusal.{refusal}
 use Rattle.desk.specs.Perform.{choicesOf, done, perform}
 use Rattle.desk.proofs.WithClinic.{with-same, with-other}
@@ -83,19 +83,19 @@ module _
     full = step-fits catalogue fault (clinicAt room c) (sound .clinics-fit c below) .all-bytes
 
     -- a turn that finds a seat at work is that seat's step put in its place
-    pub turn-is : turn catalogue room ≡ withClinic c (seatAfter c) (step catalogue (clinicAt room c)) room
+    turn-is : turn catalogue room ≡ turnFor catalogue room (some c)
     unfolding turn
     turn-is = rw found refl
 
     pub turn-steps : clinicAt (turn catalogue room) c ≡ step catalogue (clinicAt room c)
     turn-steps =
         rw turn-is
-        (with-same room (sound .eight) (sound .board-length) c (seatAfter c) below (step catalogue (clinicAt room c)) full)
+        (with-same room (sound .eight) (sound .board-length) c _ below (step catalogue (clinicAt room c)) full)
 
     pub turn-stays : (d : ℕ) → (d ≡ c → ⊥) → clinicAt (turn catalogue room) d ≡ clinicAt room d
     turn-stays d other =
         rw turn-is
-        (with-other room (sound .eight) (sound .board-length) c (seatAfter c) below (step catalogue (clinicAt room c)) full d other)
+        (with-other room (sound .eight) (sound .board-length) c _ below (step catalogue (clinicAt room c)) full d other)
 
     pub turn-next : turn catalogue room .desk .next ≡ seatAfter c
     unfolding withClinic

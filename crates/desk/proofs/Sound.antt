@@ -7,7 +7,9 @@ use mathlib.Core.Path.{_≡_, refl}
 use mathlib.Core.Bool.{Bool, true, false, and-eq-true-iff}
 use mathlib.Core.Option.{Option, none, some}
 use native.Mathlib.Omega.{arith}
-use lib.ListN.{length, length-replicate}
+use mathlib.Core.List.{List}
+use lib.ListN.{length, getD, set, length-replicate}
+use lib.Seq.{getD-set-same, getD-set-other}
 use lib.Dec.{leb, eqb}
 use borrow.Author.Tests.{leb-true, le-leb, eqb-true, eqb-false}
 use Rattle.catalogue.specs.Catalogue.{Catalogue}
@@ -19,11 +21,11 @@ use Rattle.seat.specs.Step.{step}
 use Rattle.seat.proofs.Fits.{every-below, below-every}
 use Rattle.seat.proofs.ClinicFits.{ClinicFits, closed-fits}
 use Rattle.seat.proofs.StepFits.{step-fits}
-use Rattle.desk.specs.Room.{Room, seatAt, clinicAt, withClinic, freshDesk, emptyBoard}
+use Rattle.desk.specs.Room.{Room, seatAt, shareAt, clinicAt, withClinic, freshDesk, emptyBoard}
 use Rattle.desk.specs.Fit.{deskFits}
-use Rattle.desk.specs.Turn.{seatAfter, served, turnFor, turn, afterTurns}
-use Rattle.desk.proofs.WithClinic.{share-length, fresh-clinic, with-eight, with-board-length, with-same, with-other}
-use Rattle.desk.proofs.Served.{after-below, served-found}
+use Rattle.desk.specs.Turn.{served, turnFor, turn, afterTurns}
+use Rattle.desk.proofs.WithClinic.{noSeat, share-length, fresh-clinic, with-eight, with-board-length}
+use Rattle.desk.proofs.Served.{served-found}
 
 pub record Sound (catalogue : Catalogue) (room : Room) : Type 0 where
   pub eight : length (room .desk .seats) ≡ 8
@@ -67,26 +69,49 @@ module _ (catalogue : Catalogue) (room : Room) where
         };
       }
 
+  other-share : (clinic : Clinic) → ClinicFits catalogue clinic → (share : List ℕ) → length share ≡ 4096
+      → ClinicFits catalogue (record { seat = clinic .seat; share = share })
+  other-share clinic fits share full = record {
+    all-choices = fits .all-choices;
+    all-masks = fits .all-masks;
+    all-entries = fits .all-entries;
+    all-bytes = full;
+    fits = fits .fits;
+  }
+
+  -- records that make clinics that fit, with any share of its length
+  abbrev RecordsFit : List Seat → Type 0
+  RecordsFit seats =
+      (d : ℕ) → d < 8 → (share : List ℕ) → length share ≡ 4096
+      → ClinicFits catalogue (record { seat = getD seats d noSeat; share = share })
+
+  records-fit : Sound catalogue room → RecordsFit (room .desk .seats)
+  records-fit sound d k = other-share (clinicAt room d) (sound .clinics-fit d k)
+
+  with-record : (seats : List Seat) → length seats ≡ 8 → RecordsFit seats → (c : ℕ) → c < 8 → (clinic : Clinic)
+      → ClinicFits catalogue clinic → RecordsFit (set seats c (clinic .seat))
+  with-record seats eight records c l clinic fits d k share full = go (eqb d c) refl
+    where
+      go : (t : Bool) → eqb d c ≡ t
+          → ClinicFits catalogue (record { seat = getD (set seats c (clinic .seat)) d noSeat; share = share })
+      go true h =
+          let same : d ≡ c = eqb-true d c h in
+          rw (same, getD-set-same seats c (clinic .seat) noSeat (omega arith)) (other-share clinic fits share full)
+      go false h = rw (getD-set-other seats c d (clinic .seat) noSeat (eqb-false d c h)) (records d k share full)
+
   pub with-clinic-sound : Sound catalogue room → (c next : ℕ) → c < 8 → next < 8 → (clinic : Clinic)
       → ClinicFits catalogue clinic → Sound catalogue (withClinic c next clinic room)
   unfolding withClinic
-  with-clinic-sound sound c next l next-below clinic fits = record {
-    eight = with-eight room (sound .eight) (sound .board-length) c next l clinic (fits .all-bytes);
-    board-length = with-board-length room (sound .eight) (sound .board-length) c next l clinic (fits .all-bytes);
-    next-below = next-below;
-    clinics-fit = each;
-  }
-    where
-      each : (d : ℕ) → d < 8 → ClinicFits catalogue (clinicAt (withClinic c next clinic room) d)
-      each d k = go (eqb d c) refl
-        where
-          go : (t : Bool) → eqb d c ≡ t → ClinicFits catalogue (clinicAt (withClinic c next clinic room) d)
-          go true h =
-              let same : d ≡ c = eqb-true d c h in
-              rw (same, with-same room (sound .eight) (sound .board-length) c next l clinic (fits .all-bytes)) fits
-          go false h =
-              rw (with-other room (sound .eight) (sound .board-length) c next l clinic (fits .all-bytes) d (eqb-false d c h))
-              (sound .clinics-fit d k)
+  with-clinic-sound sound c next l next-below clinic fits =
+      let board-length = with-board-length room (sound .eight) (sound .board-length) c next l clinic (fits .all-bytes) in
+      record {
+        eight = with-eight room (sound .eight) (sound .board-length) c next l clinic (fits .all-bytes);
+        board-length = board-length;
+        next-below = next-below;
+        clinics-fit = λ (d : ℕ) (k : d < 8).
+            with-record (room .desk .seats) (sound .eight) (records-fit sound) c l clinic fits d k
+            (shareAt (withClinic c next clinic room .board) d) (share-length (withClinic c next clinic room .board) board-length d k);
+      }
 
 pub fresh-sound : (catalogue : Catalogue) → Sound catalogue (record { desk = freshDesk; board = emptyBoard })
 fresh-sound catalogue = record {
@@ -105,7 +130,7 @@ module _ (catalogue : Catalogue) (fault : faultOf catalogue ≡ 0) where
       go none e = sound
       go (some c) e =
           let here = served-found (room .desk) (sound .next-below) c e in
-          with-clinic-sound catalogue room sound c (seatAfter c) (here .below) (after-below c) (step catalogue (clinicAt room c))
+          with-clinic-sound catalogue room sound c _ (here .below) (omega arith) (step catalogue (clinicAt room c))
           (step-fits catalogue fault (clinicAt room c) (sound .clinics-fit c (here .below)))
 
   pub turns-sound : (w : ℕ) (room : Room) → Sound catalogue room → Sound catalogue (afterTurns catalogue w room)

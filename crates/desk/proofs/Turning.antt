@@ -15,7 +15,7 @@ use Rattle.desk.specs.Room.{Room, clinicAt, withClinic}
 use Rattle.desk.specs.Call.{turns}
 use Rattle.desk.specs.Answers.{trueFrom}
 use Rattle.desk.specs.Perform.{turnsAnswer, done}
-use Rattle.desk.specs.Turn.{isAtWork, isSome, seatAfter, served, turn, afterTurns, turnsMade}
+use Rattle.desk.specs.Turn.{isAtWork, isSome, served, turnFor, turn, afterTurns, turnsMade}
 use Rattle.desk.proofs.Sound.{Sound, turn-sound}
 use Rattle.desk.proofs.FirstAtWork.{marks, marks-set, marks-found}
 use Rattle.desk.proofs.MadeTurns.{Made, one-more, all-made, nobody-left}
@@ -43,11 +43,11 @@ module _
     pub turn-made : faultOf catalogue ≡ 0 → made < w → (c : ℕ) → trueFrom 8 working (room .desk .next) ≡ some c
         → (clinic : Clinic) → clinic ≡ step catalogue (clinicAt room c)
         → Turning catalogue w start (made + 1) (set working c (isAtWork (clinic .seat .state)))
-        (withClinic c (seatAfter c) clinic room)
+        (withClinic c (turnFor catalogue room (some c) .desk .next) clinic room)
     unfolding withClinic turn
     turn-made fault l c found clinic stepped =
         let here : served (room .desk) ≡ some c = sym found-served ∙ found in
-        let after : turn catalogue room ≡ withClinic c (seatAfter c) clinic room = rw (here, stepped) in
+        let after : turn catalogue room ≡ withClinic c (turnFor catalogue room (some c) .desk .next) clinic room = rw (here, stepped) in
         record {
           sound = rw after at (turn-sound catalogue fault room (now .sound));
           so-far = rw stepped (one-more (now .so-far) l c here);
