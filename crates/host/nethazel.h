@@ -102,13 +102,12 @@ typedef struct {
     nethazel_desk desk;
 } nethazel_turned;
 
-/* What every call is lent: the board; the sizes, one for each feature, from 1 to 16 features of 1 to 16 options; and the rule
+/* What every call is lent: the board; the sizes, one for each of 1 to 16 features, from 1 to 16 options each; and the rule
    list, at most 8,192 numbers for at most 64 rules. A rule is its arity k (1 to 6), its row count m, k different features,
    then m rows of k options; a build satisfies it when its options at those features are one of the rows. */
-#define NETHAZEL_WRITTEN \
-    uint8_t *board, size_t board_length, const uint8_t *sizes, size_t sizes_length, const uint16_t *rules, size_t rules_length
-#define NETHAZEL_READ \
-    const uint8_t *board, size_t board_length, const uint8_t *sizes, size_t sizes_length, const uint16_t *rules, size_t rules_length
+#define NETHAZEL_CATALOGUE const uint8_t *sizes, size_t sizes_length, const uint16_t *rules, size_t rules_length
+#define NETHAZEL_WRITTEN uint8_t *board, size_t board_length, NETHAZEL_CATALOGUE
+#define NETHAZEL_READ const uint8_t *board, size_t board_length, NETHAZEL_CATALOGUE
 
 /* In all calls c is a seat (0 to 7), i a feature and a an option.
 

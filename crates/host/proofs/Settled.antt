@@ -11,17 +11,17 @@ use Rattle.host.specs.declared.records.HostChanged.{HostChanged}
 use Rattle.host.specs.declared.records.HostLeft.{HostLeft}
 use Rattle.host.specs.declared.records.HostExample.{HostExample}
 use Rattle.host.specs.declared.records.HostTurned.{HostTurned}
-use Rattle.host.specs.Door.{HostOutcome, inside, throughDoor, openedDoor, changedOutcome, leftAnswer, turnedOutcome, exampleStands}
+use Rattle.host.specs.Door.{HostOutcome, inside, throughDoor, openedDoor, hostChangedOutcome, hostLeftAnswer, hostTurnedOutcome, exampleStands}
 
 -- what the contracts of open, enter, leave, choose and relax say, then that of options, then that of turns
 abbrev pub ChangesTo : HostOutcome → HostChanged → List ℕ → Type 0
-ChangesTo outcome r board = changedOutcome r board ≡ outcome
+ChangesTo outcome r board = hostChangedOutcome r board ≡ outcome
 
 abbrev pub ReadsAs : Answer → HostLeft → Type 0
-ReadsAs answer r = leftAnswer r ≡ answer
+ReadsAs answer r = hostLeftAnswer r ≡ answer
 
 abbrev pub TurnsTo : HostOutcome → HostTurned → List ℕ → Type 0
-TurnsTo outcome r board = turnedOutcome r board ≡ outcome
+TurnsTo outcome r board = hostTurnedOutcome r board ≡ outcome
 
 abbrev changedIn : HostOutcome → HostChanged
 changedIn outcome = record { number = outcome .answer .number; desk = outcome .desk }

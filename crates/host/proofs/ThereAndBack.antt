@@ -14,19 +14,19 @@ use Rattle.seat.specs.declared.State.the-variants.{Closed, Ready, AtWork}
 use Rattle.desk.specs.declared.Desk.{Desk}
 use Rattle.host.specs.declared.records.HostSeat.{HostSeat}
 use Rattle.host.specs.declared.records.HostDesk.{HostDesk}
-use Rattle.host.specs.Records.{seatOf, allKnown, deskOf, hostSeatIn, hostSeatOf, hostDeskOf}
+use Rattle.host.specs.Records.{deskSeatOf, allKnown, deskOf, hostSeatIn, hostSeatOf, hostDeskOf}
 use Rattle.host.specs.Tidy.{TidySeat, atWork, elsewhere, Tidy}
 
 seat-in : (state : State) (seat : Seat)
-    → seatOf (hostSeatIn state seat) ≡ record { state = state; choices = seat .choices; masks = seat .masks; trial = seat .trial }
+    → deskSeatOf (hostSeatIn state seat) ≡ record { state = state; choices = seat .choices; masks = seat .masks; trial = seat .trial }
 seat-in Closed seat = refl
 seat-in Ready seat = refl
 seat-in (AtWork place) seat = refl
 
-pub seat-and-back : (seat : Seat) → seatOf (hostSeatOf seat) ≡ seat
+pub seat-and-back : (seat : Seat) → deskSeatOf (hostSeatOf seat) ≡ seat
 seat-and-back seat = seat-in (seat .state) seat
 
-seats-and-back : (seats : List Seat) → map seatOf (map hostSeatOf seats) ≡ seats
+seats-and-back : (seats : List Seat) → map deskSeatOf (map hostSeatOf seats) ≡ seats
 seats-and-back [] = refl
 seats-and-back (seat ∷ seats) = rw (seat-and-back seat, seats-and-back seats)
 
@@ -45,16 +45,16 @@ pub desk-and-back : (desk : Desk) → deskOf (hostDeskOf desk) ≡ desk
 unfolding deskOf hostDeskOf
 desk-and-back desk = rw (seats-and-back (desk .seats), all-are-known (desk .seats))
 
-pub host-seat-and-back : {given : HostSeat} → TidySeat given → hostSeatOf (seatOf given) ≡ given
+pub host-seat-and-back : {given : HostSeat} → TidySeat given → hostSeatOf (deskSeatOf given) ≡ given
 host-seat-and-back {given} (atWork two) = rw two
 host-seat-and-back {given} (elsewhere below f o d n) = go (given .state) refl
   where
-    go : (state : ℕ) → given .state ≡ state → hostSeatOf (seatOf given) ≡ given
+    go : (state : ℕ) → given .state ≡ state → hostSeatOf (deskSeatOf given) ≡ given
     go zero e = rw (e, f, o, d, n)
     go (suc zero) e = rw (e, f, o, d, n)
     go (suc (suc state)) e = absurd (omega arith)
 
-tidy-seats-and-back : (given : List HostSeat) → Every TidySeat given → map hostSeatOf (map seatOf given) ≡ given
+tidy-seats-and-back : (given : List HostSeat) → Every TidySeat given → map hostSeatOf (map deskSeatOf given) ≡ given
 tidy-seats-and-back _ none = refl
 tidy-seats-and-back _ (also {x = given} {xs = more} tidy all) = rw (host-seat-and-back tidy, tidy-seats-and-back more all)
 

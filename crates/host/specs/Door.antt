@@ -48,15 +48,15 @@ openedDoor catalogue board = outside (opening catalogue board)
 
 -- The answers of the code as the definitions have them.
 
-abbrev pub changedOutcome : HostChanged → List ℕ → HostOutcome
-changedOutcome changed board = record { answer = refused (changed .number); desk = changed .desk; board = board }
+abbrev pub hostChangedOutcome : HostChanged → List ℕ → HostOutcome
+hostChangedOutcome changed board = record { answer = refused (changed .number); desk = changed .desk; board = board }
 
-abbrev pub leftAnswer : HostLeft → Answer
-leftAnswer left =
+abbrev pub hostLeftAnswer : HostLeft → Answer
+hostLeftAnswer left =
     record { number = left .number; mask = left .mask; count = left .count; bytes = []; made = 0; working = false }
 
-abbrev pub turnedOutcome : HostTurned → List ℕ → HostOutcome
-turnedOutcome turned board = record {
+abbrev pub hostTurnedOutcome : HostTurned → List ℕ → HostOutcome
+hostTurnedOutcome turned board = record {
   answer = record { number = turned .number; mask = 0; count = 0; bytes = []; made = turned .made; working = turned .working };
   desk = turned .desk;
   board = board;

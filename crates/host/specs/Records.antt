@@ -12,14 +12,14 @@ use Rattle.host.specs.declared.records.HostSeat.{HostSeat}
 use Rattle.host.specs.declared.records.HostDesk.{HostDesk}
 
 -- State 0 is closed, 1 ready, 2 at work. A greater number is read as at work, and the desk's next seat tells (below).
-abbrev pub stateOf : HostSeat → State
-stateOf given =
+abbrev pub deskStateOf : HostSeat → State
+deskStateOf given =
     cond (eqb (given .state) 0) Closed
     (cond (eqb (given .state) 1) Ready
     (AtWork (record { feature = given .feature; option = given .option; depth = given .depth; next = given .next })))
 
-abbrev pub seatOf : HostSeat → Seat
-seatOf given = record { state = stateOf given; choices = given .choices; masks = given .masks; trial = given .trial }
+abbrev pub deskSeatOf : HostSeat → Seat
+deskSeatOf given = record { state = deskStateOf given; choices = given .choices; masks = given .masks; trial = given .trial }
 
 unfoldable pub allKnown : List HostSeat → Bool
 allKnown [] = true
@@ -27,7 +27,7 @@ allKnown (given ∷ more) = leb (given .state) 2 && allKnown more
 
 -- a state number that is none of the three makes next 255, and number 20 refuses every desk whose next is above 7
 unfoldable pub deskOf : HostDesk → Desk
-deskOf given = record { seats = map seatOf (given .seats); next = cond (allKnown (given .seats)) (given .next) 255 }
+deskOf given = record { seats = map deskSeatOf (given .seats); next = cond (allKnown (given .seats)) (given .next) 255 }
 
 abbrev pub hostSeat : ℕ → Place → Seat → HostSeat
 hostSeat state place seat = record {

@@ -7,14 +7,14 @@ use seat::Seat;
 use seat::State;
 ghost use mathlib.Core.Path.{_≡_};
 ghost use mathlib.Core.List.{map};
-ghost use Rattle.host.specs.Records.{stateOf, seatOf, hostSeat, hostSeatOf, allKnown, deskOf, hostDeskOf};
+ghost use Rattle.host.specs.Records.{deskStateOf, deskSeatOf, hostSeat, hostSeatOf, allKnown, deskOf, hostDeskOf};
 
 // A desk in which some seat's state has no meaning fits no catalogue: its next seat is 255, which number 20 refuses.
 pub fn desk_of(given: HostDesk) -> Desk
     ensures { λ r. ⌜ r ≡ deskOf given ⌝ }
 {
     let given_seats = given.seats;
-    let seats = seats_of(given_seats);
+    let seats = desk_seats_of(given_seats);
     if all_known(given_seats) {
         return Desk {
             seats,
@@ -34,14 +34,14 @@ pub fn host_desk_of(desk: Desk) -> HostDesk
     }
 }
 
-fn seats_of(given: [HostSeat; 8]) -> [Seat; 8]
-    ensures { λ r. ⌜ r ≡ map seatOf given ⌝ }
+fn desk_seats_of(given: [HostSeat; 8]) -> [Seat; 8]
+    ensures { λ r. ⌜ r ≡ map deskSeatOf given ⌝ }
 {
     let closed = seat::closed();
     let mut seats = [closed; 8];
     let mut c = 0usize;
     while c < 8 {
-        seats[c] = seat_of(given[c]);
+        seats[c] = desk_seat_of(given[c]);
         c += 1;
     }
     seats
@@ -75,10 +75,10 @@ fn all_known(given: [HostSeat; 8]) -> bool
     true
 }
 
-fn seat_of(given: HostSeat) -> Seat
-    ensures { λ r. ⌜ r ≡ seatOf given ⌝ }
+fn desk_seat_of(given: HostSeat) -> Seat
+    ensures { λ r. ⌜ r ≡ deskSeatOf given ⌝ }
 {
-    let state = state_of(given);
+    let state = desk_state_of(given);
     let choices = given.choices;
     let masks = given.masks;
     let trial = given.trial;
@@ -90,8 +90,8 @@ fn seat_of(given: HostSeat) -> Seat
     }
 }
 
-fn state_of(given: HostSeat) -> State
-    ensures { λ r. ⌜ r ≡ stateOf given ⌝ }
+fn desk_state_of(given: HostSeat) -> State
+    ensures { λ r. ⌜ r ≡ deskStateOf given ⌝ }
 {
     if given.state == 0 {
         return State::Closed;
