@@ -1,0 +1,159 @@
+//! Builds by brute force, and what a ready seat must show by demand 2. Nothing here knows of the
+//! written search, but for the last function, which counts K by plain recursion.
+
+use crate::catalogue::{Catalogue, FEATURES};
+use crate::desk::{Record, EXAMPLE, NONE, SHARE};
+
+/// Above this many instantiations brute force is left out.
+pub const SMALL_ENOUGH: u64 = 200_000;
+
+/// All builds in dictionary order (255 for missing features); None where there are too many
+/// instantiations to test.
+pub fn builds(catalogue: &Catalogue) -> Option<Vec<[u8; FEATURES]>> {
+    let mut product: u64 = 1;
+    for &size in &catalogue.sizes {
+        product *= u64::from(size);
+        if product > SMALL_ENOUGH {
+            return None;
+        }
+    }
+    let mut found = Vec::new();
+    let mut build = [NONE; FEATURES];
+    build[..catalogue.features()].copy_from_slice(&vec![0; catalogue.features()]);
+    loop {
+        if catalogue.rules.iter().all(|rule| rule.satisfied_by(&build)) {
+            found.push(build);
+        }
+        // The next instantiation in dictionary order: count up from the last feature.
+        let mut feature = catalogue.features();
+        loop {
+            if feature == 0 {
+                return Some(found);
+            }
+            feature -= 1;
+            build[feature] += 1;
+            if build[feature] < catalogue.sizes[feature] {
+                break;
+            }
+            build[feature] = 0;
+        }
+    }
+}
+
+/// Masks and share of a ready seat as demand 2 has them: "an option is shown as left exactly when
+/// some complete build satisfies every rule and every choice now in force and contains that
+/// option … Beside each such option stands the first such build in dictionary order."
+pub fn shown(
+    catalogue: &Catalogue,
+    builds: &[[u8; FEATURES]],
+    choices: &[u8; FEATURES],
+) -> ([u16; FEATURES], Vec<u8>) {
+    let mut masks = [0u16; FEATURES];
+    let mut share = vec![NONE; SHARE];
+    for build in builds {
+        let in_force = (0..FEATURES).all(|f| choices[f] == NONE || choices[f] == build[f]);
+        if !in_force {
+            continue;
+        }
+        for feature in 0..catalogue.features() {
+            let option = usize::from(build[feature]);
+            if masks[feature] & (1 << option) == 0 {
+                masks[feature] |= 1 << option;
+                let place = feature * 256 + option * EXAMPLE;
+                share[place..place + EXAMPLE].copy_from_slice(build);
+            }
+        }
+    }
+    (masks, share)
+}
+
+/// What is wrong with a ready seat of a run, if anything is.
+pub fn wrong_when_ready(
+    catalogue: &Catalogue,
+    builds: Option<&[[u8; FEATURES]]>,
+    record: &Record,
+    share: &[u8],
+) -> Option<String> {
+    for feature in 0..catalogue.features() {
+        let choice = record.choices[feature];
+        // "in a ready seat a feature that has a choice shows that option alone as left"
+        if choice != NONE && record.masks[feature] != 1 << choice {
+            return Some(format!(
+                "feature {} has choice {} and shows mask {}",
+                feature, choice, record.masks[feature]
+            ));
+        }
+    }
+    let builds = builds?;
+    // "If the catalogue has a build, every ready seat shows at least one option for each feature;
+    // if it has none, no option anywhere."
+    for feature in 0..catalogue.features() {
+        if (record.masks[feature] == 0) != builds.is_empty() {
+            return Some(format!(
+                "the catalogue has {} builds and feature {} shows mask {}",
+                builds.len(),
+                feature,
+                record.masks[feature]
+            ));
+        }
+    }
+    let (masks, examples) = shown(catalogue, builds, &record.choices);
+    if masks != record.masks {
+        return Some(format!("masks {:?}, by brute force {:?}", record.masks, masks));
+    }
+    let place = (0..SHARE).find(|&place| share[place] != examples[place])?;
+    Some(format!(
+        "byte {} of the share is {}, by brute force {}",
+        place, share[place], examples[place]
+    ))
+}
+
+/// K, pair by pair: how many steps the written search takes for each pair (i, a).
+pub fn steps_by_pair(catalogue: &Catalogue, choices: &[u8; FEATURES]) -> Vec<u64> {
+    let mut steps = Vec::new();
+    for i in 0..catalogue.features() {
+        for a in 0..catalogue.sizes[i] {
+            if choices[i] != NONE && choices[i] != a {
+                // "Nothing is tried", yet it is one step.
+                steps.push(1);
+                continue;
+            }
+            let mut fixed = *choices;
+            fixed[i] = a;
+            let mut count = 0;
+            place_from(catalogue, &fixed, 0, &mut [NONE; FEATURES], &mut count);
+            steps.push(count);
+        }
+    }
+    steps
+}
+
+/// Places options from `depth` on, one step counted for each; true once a build is found.
+fn place_from(
+    catalogue: &Catalogue,
+    fixed: &[u8; FEATURES],
+    depth: usize,
+    build: &mut [u8; FEATURES],
+    count: &mut u64,
+) -> bool {
+    if depth == catalogue.features() {
+        return true;
+    }
+    for option in 0..catalogue.sizes[depth] {
+        if fixed[depth] != NONE && fixed[depth] != option {
+            continue;
+        }
+        build[depth] = option;
+        *count += 1;
+        let passed = catalogue
+            .rules
+            .iter()
+            .filter(|rule| rule.highest() == depth)
+            .all(|rule| rule.satisfied_by(build));
+        if passed && place_from(catalogue, fixed, depth + 1, build, count) {
+            return true;
+        }
+    }
+    build[depth] = NONE;
+    false
+}

@@ -1,0 +1,110 @@
+//! Number 20, clause by clause: "the desk doesn't fit the catalogue".
+
+use crate::catalogue::{Catalogue, FEATURES};
+use crate::desk::{Desk, Record, State, NONE};
+
+/// The clauses of number 20 in the paper's order. Only the count of each tells them apart.
+#[derive(Clone, Copy, Debug, PartialEq, Eq)]
+pub enum Clause {
+    Next,
+    Choice,
+    ChoiceOfMissing,
+    Mask,
+    MaskOfMissing,
+    PlaceFeature,
+    PlaceDepth,
+    PlaceOption,
+    PlaceNext,
+    TrialBefore,
+    TrialFromDepth,
+    TrialNotAtWork,
+    ClosedChoice,
+    ClosedMask,
+}
+
+pub const CLAUSES: [(Clause, &str); 14] = [
+    (Clause::Next, "next above 7"),
+    (Clause::Choice, "a choice that is no option"),
+    (Clause::ChoiceOfMissing, "a choice for a missing feature"),
+    (Clause::Mask, "a mask bit not below the size"),
+    (Clause::MaskOfMissing, "a mask bit for a missing feature"),
+    (Clause::PlaceFeature, "i not a feature"),
+    (Clause::PlaceDepth, "j not a feature"),
+    (Clause::PlaceOption, "a not below the size of i"),
+    (Clause::PlaceNext, "v not below the size of j"),
+    (Clause::TrialBefore, "a trial entry before j not below the size"),
+    (Clause::TrialFromDepth, "a trial entry from j on that isn't 255"),
+    (Clause::TrialNotAtWork, "a trial entry of a seat not at work"),
+    (Clause::ClosedChoice, "a closed seat with a choice"),
+    (Clause::ClosedMask, "a closed seat with a mask bit"),
+];
+
+/// The first clause met, if any; all eight seats are looked at.
+pub fn misfit(desk: &Desk, catalogue: &Catalogue) -> Option<Clause> {
+    if desk.next > 7 {
+        return Some(Clause::Next);
+    }
+    desk.seats.iter().find_map(|record| misfit_of_seat(record, catalogue))
+}
+
+fn misfit_of_seat(record: &Record, catalogue: &Catalogue) -> Option<Clause> {
+    let size = |feature: usize| catalogue.sizes[feature];
+    let features = catalogue.features();
+    for feature in 0..FEATURES {
+        let (choice, mask) = (record.choices[feature], record.masks[feature]);
+        if feature < features {
+            if choice != NONE && choice >= size(feature) {
+                return Some(Clause::Choice);
+            }
+            // In 32 bits: a shift by 16 leaves nothing.
+            if u32::from(mask) >> size(feature) != 0 {
+                return Some(Clause::Mask);
+            }
+        } else {
+            if choice != NONE {
+                return Some(Clause::ChoiceOfMissing);
+            }
+            if mask != 0 {
+                return Some(Clause::MaskOfMissing);
+            }
+        }
+    }
+    match record.state {
+        State::AtWork { i, a, j, v } => {
+            let (i, j) = (usize::from(i), usize::from(j));
+            if i >= features {
+                return Some(Clause::PlaceFeature);
+            }
+            if j >= features {
+                return Some(Clause::PlaceDepth);
+            }
+            if a >= size(i) {
+                return Some(Clause::PlaceOption);
+            }
+            if v >= size(j) {
+                return Some(Clause::PlaceNext);
+            }
+            if (0..j).any(|entry| record.trial[entry] >= size(entry)) {
+                return Some(Clause::TrialBefore);
+            }
+            // "any other trial entry that isn't 255": trial[j] itself and all after it.
+            if (j..FEATURES).any(|entry| record.trial[entry] != NONE) {
+                return Some(Clause::TrialFromDepth);
+            }
+        }
+        State::Closed | State::Ready => {
+            if record.trial.iter().any(|&entry| entry != NONE) {
+                return Some(Clause::TrialNotAtWork);
+            }
+        }
+    }
+    if record.state == State::Closed {
+        if record.choices.iter().any(|&choice| choice != NONE) {
+            return Some(Clause::ClosedChoice);
+        }
+        if record.masks.iter().any(|&mask| mask != 0) {
+            return Some(Clause::ClosedMask);
+        }
+    }
+    None
+}

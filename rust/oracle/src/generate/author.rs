@@ -1,0 +1,163 @@
+//! The author of a script: writes each line and plays it at once, so that the next line can be
+//! chosen with the desk in view.
+
+use super::catalogues::Draft;
+use super::random::Random;
+use crate::desk::{Desk, State, BOARD, NONE, SEATS};
+use crate::script::Session;
+
+pub struct Author {
+    pub random: Random,
+    pub session: Session,
+    pub lines: Vec<Vec<u8>>,
+    pub transcript: Vec<u8>,
+}
+
+impl Author {
+    pub fn new(seed: u64) -> Author {
+        Author {
+            random: Random::new(seed),
+            session: Session::new(),
+            lines: Vec::new(),
+            transcript: Vec::new(),
+        }
+    }
+
+    pub fn line<T: AsRef<[u8]>>(&mut self, text: T) {
+        self.session.line(text.as_ref(), &mut self.transcript);
+        self.lines.push(text.as_ref().to_vec());
+    }
+
+    /// A call and, after every call, a digest; the longer looks now and then.
+    pub fn call<T: AsRef<[u8]>>(&mut self, text: T) {
+        self.line(text);
+        self.line("digest");
+        let seat = self.random.below(SEATS);
+        match self.random.below(300) {
+            0 => self.line("desk"),
+            1 | 2 => self.line(format!("share {}", seat)),
+            3 | 4 => self.line(format!("seat {}", seat)),
+            5..=12 => {
+                let seat = self.random.near(SEATS);
+                self.line(format!("list {}", seat));
+            }
+            _ => {}
+        }
+    }
+
+    pub fn features(&self) -> usize {
+        self.session.sizes.len()
+    }
+
+    pub fn size(&self, feature: usize) -> usize {
+        self.session.sizes.get(feature).map_or(0, |&size| usize::from(size))
+    }
+
+    /// Sizes and rule list, the list in one line or in several.
+    pub fn catalogue(&mut self, draft: &Draft) {
+        let sizes: Vec<u16> = draft.sizes.iter().map(|&size| u16::from(size)).collect();
+        self.line(format!("sizes{}", joined(&sizes)));
+        let list = draft.list();
+        let mut from = 0;
+        let mut word = "rules";
+        loop {
+            let mut to = list.len();
+            if self.random.once_in(4) {
+                to = self.random.between(from, to);
+            }
+            self.line(format!("{}{}", word, joined(&list[from..to])));
+            if to == list.len() {
+                break;
+            }
+            word = "more";
+            from = to;
+        }
+    }
+
+    /// A board, nearly always of the right length and mostly full of 255.
+    pub fn board(&mut self) {
+        let byte = if self.random.once_in(4) { self.random.below(256) } else { 255 };
+        self.line(format!("board {} {}", BOARD, byte));
+    }
+
+    /// Sets the desk's fields one by one until the desk is `wanted`.
+    pub fn dress(&mut self, wanted: &Desk) {
+        if self.session.desk.next != wanted.next {
+            self.line(format!("set-next {}", wanted.next));
+        }
+        for seat in 0..SEATS {
+            let record = wanted.seats[seat].clone();
+            if self.session.desk.seats[seat].state != record.state {
+                match record.state {
+                    State::Closed => self.line(format!("set-closed {}", seat)),
+                    State::Ready => self.line(format!("set-ready {}", seat)),
+                    State::AtWork { i, a, j, v } => {
+                        self.line(format!("set-work {} {} {} {} {}", seat, i, a, j, v))
+                    }
+                }
+            }
+            for feature in 0..16 {
+                let now = &self.session.desk.seats[seat];
+                let (choice, mask) = (record.choices[feature], record.masks[feature]);
+                let (other_choice, other_mask) = (now.choices[feature] != choice, now.masks[feature] != mask);
+                let other_trial = now.trial[feature] != record.trial[feature];
+                if other_choice {
+                    self.line(format!("set-choice {} {} {}", seat, feature, choice));
+                }
+                if other_mask {
+                    self.line(format!("set-mask {} {} {}", seat, feature, mask));
+                }
+                if other_trial {
+                    self.line(format!("set-trial {} {} {}", seat, feature, record.trial[feature]));
+                }
+            }
+        }
+    }
+
+    /// How many turns to ask for.
+    pub fn some_turns(&mut self) -> usize {
+        match self.random.below(24) {
+            0 => 0,
+            1..=5 => 1,
+            6..=9 => self.random.between(2, 9),
+            10..=14 => self.random.below(70),
+            15..=18 => self.random.below(700),
+            19..=21 => self.random.below(7_000),
+            22 => self.random.pick(&[255, 256, 257, 65_534, 65_535]),
+            _ => 65_535,
+        }
+    }
+
+    /// A call of any kind on a seat, its numbers near their limits, whatever the seat's state is.
+    pub fn any_call(&mut self, seat: usize) {
+        let seat = if self.random.once_in(16) { self.random.near(SEATS) } else { seat as u32 };
+        let feature = self.random.near(self.features());
+        let known = (feature as usize).min(15);
+        let option = self.random.near(self.size(known));
+        let text = match self.random.below(29) {
+            0 => "open".to_string(),
+            1..=4 => format!("enter {}", seat),
+            5..=8 => format!("leave {}", seat),
+            9..=12 => format!("choose {} {} {}", seat, feature, option),
+            13..=16 => format!("relax {} {}", seat, feature),
+            17..=20 => format!("options {} {}", seat, feature),
+            21..=24 => format!("example {} {} {}", seat, feature, option),
+            _ => format!("turns {}", self.some_turns()),
+        };
+        self.call(text);
+    }
+
+    /// A feature of the seat that has a choice, if any has.
+    pub fn chosen(&mut self, seat: usize) -> Option<usize> {
+        let choices = self.session.desk.seats[seat].choices;
+        let chosen: Vec<usize> = (0..16).filter(|&feature| choices[feature] != NONE).collect();
+        if chosen.is_empty() {
+            return None;
+        }
+        Some(self.random.pick(&chosen))
+    }
+}
+
+pub fn joined(numbers: &[u16]) -> String {
+    numbers.iter().map(|number| format!(" {}", number)).collect()
+}

@@ -1,0 +1,195 @@
+//! Sections on made-up desks: all that number 20 lets through, also what no search would reach, and
+//! both sides of each of its clauses.
+
+use super::author::Author;
+use super::catalogues;
+use crate::desk::{Desk, Record, State, NONE, SEATS};
+
+/// Desks within the limits of 20, stepped on and called.
+pub fn within_limits(author: &mut Author) {
+    begin(author);
+    for _ in 0..author.random.between(2, 8) {
+        let wanted = fitting_desk(author);
+        author.dress(&wanted);
+        dirty_bytes(author);
+        author.line("digest");
+        for _ in 0..author.random.between(2, 12) {
+            next_call(author);
+        }
+    }
+}
+
+/// Desks with one field at either side of a clause of 20.
+pub fn at_limits(author: &mut Author) {
+    begin(author);
+    let wanted = fitting_desk(author);
+    for _ in 0..author.random.between(5, 20) {
+        author.dress(&wanted);
+        let seat = author.random.below(SEATS);
+        for _ in 0..author.random.pick(&[1, 1, 1, 2]) {
+            edge(author, seat);
+        }
+        author.line("digest");
+        let other = if author.random.once_in(3) { author.random.below(SEATS) } else { seat };
+        for _ in 0..author.random.between(1, 2) {
+            author.any_call(other);
+        }
+    }
+    // What comes next shall not be refused for this desk.
+    author.dress(&Desk::fresh());
+}
+
+fn begin(author: &mut Author) {
+    let draft = catalogues::any(&mut author.random);
+    author.catalogue(&draft);
+    author.board();
+}
+
+/// Bytes of the board that no search would have written there.
+fn dirty_bytes(author: &mut Author) {
+    for _ in 0..author.random.pick(&[0, 0, 0, 1, 5]) {
+        let feature = author.random.below(author.features() + 1).min(15);
+        let option = author.random.below(author.size(feature));
+        let seat = author.random.below(SEATS);
+        let place = seat * 4096 + feature * 256 + option * 16 + author.random.below(16);
+        let byte = author.random.pick(&[0, 1, 2, 254, 255]);
+        author.line(format!("set-byte {} {}", place, byte));
+    }
+}
+
+fn fitting_desk(author: &mut Author) -> Desk {
+    let mut desk = Desk::fresh();
+    desk.next = author.random.below(SEATS) as u8;
+    let busy = author.random.pick(&[1, 2, 3, 8]);
+    for _ in 0..busy {
+        let seat = author.random.below(SEATS);
+        desk.seats[seat] = fitting_record(author);
+    }
+    desk
+}
+
+/// A record that 20 lets through: any choices and masks, any place, any trial before it.
+fn fitting_record(author: &mut Author) -> Record {
+    let mut record = Record::closed();
+    let features = author.features();
+    let some_choices = author.random.pick(&[2, 4, 1000]);
+    let some_masks = author.random.pick(&[1, 2, 1000]);
+    for feature in 0..features {
+        let size = author.size(feature);
+        if author.random.once_in(some_choices) {
+            record.choices[feature] = author.random.below(size) as u8;
+        }
+        if author.random.once_in(some_masks) {
+            record.masks[feature] = author.random.below(1 << size) as u16;
+        }
+    }
+    record.state = State::Ready;
+    if !author.random.once_in(4) {
+        let i = author.random.below(features);
+        let j = if author.random.once_in(2) { features - 1 } else { author.random.below(features) };
+        for entry in 0..j {
+            record.trial[entry] = author.random.below(author.size(entry)) as u8;
+        }
+        let choice = record.choices[i];
+        let a = if choice != NONE && author.random.once_in(2) {
+            choice
+        } else {
+            author.random.below(author.size(i)) as u8
+        };
+        let v = author.random.below(author.size(j)) as u8;
+        record.state = State::AtWork { i: i as u8, a, j: j as u8, v };
+    }
+    record
+}
+
+/// Few steps at a time, so that the digest sees each.
+fn next_call(author: &mut Author) {
+    let seat = author.random.below(SEATS);
+    match author.session.desk.seats[seat].state {
+        State::Ready if author.random.once_in(2) => {
+            let feature = author.random.below(author.features());
+            let option = author.random.below(author.size(feature));
+            let word = author.random.pick(&["choose", "example"]);
+            author.call(format!("{} {} {} {}", word, seat, feature, option));
+        }
+        _ if author.random.once_in(6) => author.any_call(seat),
+        _ => {
+            let turns = author.random.pick(&[1, 1, 1, 1, 2, 3, 5, 8, 40]);
+            author.call(format!("turns {}", turns));
+        }
+    }
+}
+
+/// One field set to a value at either side of a clause.
+fn edge(author: &mut Author, seat: usize) {
+    let features = author.features();
+    let known = author.random.below(features);
+    let size = author.size(known);
+    let missing = if features < 16 { author.random.between(features, 15) } else { 15 };
+    let entry = if author.random.once_in(3) { 15 } else { author.random.below(16) };
+    let (i, a, j, v) = place_of(author, seat);
+    let size_of_i = author.size(i);
+    let size_of_j = author.size(j);
+    let text = match author.random.below(14) {
+        0 => format!("set-next {}", author.random.pick(&[0, 6, 7, 8, 9, 16, 255])),
+        1 => {
+            let option = author.random.pick(&[0, size - 1, size, size + 1, 16, 254, 255]);
+            format!("set-choice {} {} {}", seat, known, option)
+        }
+        2 => {
+            let option = author.random.pick(&[0, 1, 16, 254, 255]);
+            format!("set-choice {} {} {}", seat, missing, option)
+        }
+        3 => {
+            let mask = author.random.pick(&[(1 << size) - 1, 1 << size, 1 << (size - 1), 32_768, 65_535]);
+            format!("set-mask {} {} {}", seat, known, mask & 65_535)
+        }
+        4 => {
+            let mask = author.random.pick(&[0, 1, 256, 32_768, 65_535]);
+            format!("set-mask {} {} {}", seat, missing, mask)
+        }
+        5 => {
+            let i = author.random.pick(&[features - 1, features, 15, 16, 255]);
+            format!("set-work {} {} {} {} {}", seat, i, a, j, v)
+        }
+        6 => {
+            let j = author.random.pick(&[0, j + 1, features - 1, features, 15, 16, 255]);
+            format!("set-work {} {} {} {} {}", seat, i, a, j, v)
+        }
+        7 => {
+            let a = author.random.pick(&[size_of_i - 1, size_of_i, 16, 255]);
+            format!("set-work {} {} {} {} {}", seat, i, a, j, v)
+        }
+        8 => {
+            let v = author.random.pick(&[size_of_j - 1, size_of_j, 16, 255]);
+            format!("set-work {} {} {} {} {}", seat, i, a, j, v)
+        }
+        9 => {
+            let before = if j == 0 { 0 } else { author.random.below(j) };
+            let size = author.size(before);
+            let option = author.random.pick(&[size - 1, size, 254, 255]);
+            format!("set-trial {} {} {}", seat, before, option)
+        }
+        10 => {
+            let from = author.random.pick(&[j, j, (j + 1).min(15), 15]);
+            format!("set-trial {} {} {}", seat, from, author.random.pick(&[0, 254, 255]))
+        }
+        11 => format!("set-trial {} {} {}", seat, entry, author.random.pick(&[0, 1, 254, 255])),
+        12 => format!("set-closed {}", seat),
+        _ => format!("set-ready {}", seat),
+    };
+    author.line(text);
+}
+
+/// The seat's place, or a place that fits: depth 0 with first options.
+fn place_of(author: &mut Author, seat: usize) -> (usize, usize, usize, usize) {
+    match author.session.desk.seats[seat].state {
+        State::AtWork { i, a, j, v } if usize::from(i) < author.features() && usize::from(j) < author.features() => {
+            (i.into(), a.into(), j.into(), v.into())
+        }
+        _ => {
+            let i = author.random.below(author.features());
+            (i, author.random.below(author.size(i)), 0, author.random.below(author.size(0)))
+        }
+    }
+}

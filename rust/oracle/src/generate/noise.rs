@@ -1,0 +1,78 @@
+//! Lines that are not understood, and lines at the edges of being understood.
+
+use super::author::Author;
+use crate::words::FORMS;
+
+/// Lines whole as they stand; none of them asks for `help` or ends the script.
+const ODD: [&[u8]; 40] = [
+    b"", b" ", b"\t, \r", b"\r", b"# a remark, 1 2 3", b"#", b"#open\r", b" # no remark", b"opne",
+    b"Open", b"OPEN", b"open 1", b"open x", b"open,", b",\topen\r", b"3 3 2", b"0", b"enter",
+    b"enter 1 2", b"enter -1", b"enter +1", b"enter 1.0", b"enter 0x1", b"enter 4294967296",
+    b"enter 4294967295", b"enter 99999999999999999999999999", b"enter 0000000000000000000003",
+    b"enter,2", b"leave 1,", b"turns 65536", b"turns", b"turns -0", b"enter 1#", b"open\x0c",
+    b"\x0bopen", b"\xff\xfe", b"# \xff\x00\x80", b"enter \xd9\xa3", b"open\x00", b"options 1",
+];
+
+pub fn noise(author: &mut Author) {
+    for _ in 0..author.random.between(1, 4) {
+        if author.random.once_in(2) {
+            let line = author.random.pick(&ODD);
+            author.line(line);
+        } else {
+            numbers_at_edge(author);
+        }
+    }
+    author.line("digest");
+}
+
+/// A command with one number too many, one too few, or numbers around the limits of the tables.
+fn numbers_at_edge(author: &mut Author) {
+    let form = author.random.pick(&FORMS);
+    let mut parts = form.split(' ');
+    let word = parts.next().unwrap_or("");
+    let mut count = parts.count();
+    let mut text = word.to_string();
+    match author.random.below(4) {
+        0 => count += 1,
+        1 => count = count.saturating_sub(1),
+        _ => {}
+    }
+    if matches!(word, "help" | "quit") && count == 0 {
+        count = 1;
+    }
+    for _ in 0..count {
+        let number = author.random.pick(&[
+            0u32, 0, 1, 2, 3, 7, 7, 8, 15, 15, 16, 255, 255, 256, 32_767, 32_768, 40_000, 40_001, 65_535, 65_536,
+            u32::MAX,
+        ]);
+        text.push_str(&format!(" {}", number));
+    }
+    author.line(text);
+}
+
+/// Lines at the edge of 65,536 bytes and lists at the edges of 64 sizes and 9,000 numbers.
+pub fn long(author: &mut Author) {
+    let length = author.random.pick(&[65_535, 65_536, 65_537, 70_000]);
+    match author.random.below(5) {
+        0 => author.line(vec![b'#'; length]),
+        1 => author.line(vec![b' '; length]),
+        2 => {
+            let mut line = b"digest".to_vec();
+            line.resize(length, b',');
+            author.line(line);
+        }
+        3 => {
+            let count = author.random.pick(&[64, 65]);
+            author.line(format!("sizes{}", " 2".repeat(count)));
+        }
+        _ => {
+            let count = author.random.pick(&[8999, 9000, 9001]);
+            author.line(format!("rules{}", " 1".repeat(count)));
+            author.line("more");
+            author.line("more 1");
+            author.line("more 1 1");
+        }
+    }
+    author.line("digest");
+    author.line("trolley");
+}

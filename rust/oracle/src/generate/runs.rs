@@ -1,0 +1,124 @@
+//! Sections that are runs: an accepted catalogue, open, and then calls alone.
+
+use super::author::Author;
+use super::catalogues;
+use crate::desk::{State, NONE, SEATS};
+
+/// A run on a small catalogue; now and then the catalogue changes midway, and then it is no run.
+pub fn run(author: &mut Author) {
+    let draft = catalogues::any(&mut author.random);
+    begin(author, &draft);
+    let calls = author.random.between(10, 160);
+    let seats = some_seats(author);
+    let changes = author.random.once_in(6);
+    for call in 0..calls {
+        if changes && call == calls / 2 {
+            change(author);
+        }
+        next_call(author, &seats);
+    }
+}
+
+/// A run on a large catalogue, with few and large turns.
+pub fn large_run(author: &mut Author) {
+    let draft = catalogues::large(&mut author.random);
+    begin(author, &draft);
+    let seats = some_seats(author);
+    let calls = author.random.between(10, 50);
+    for _ in 0..calls {
+        next_call(author, &seats);
+    }
+}
+
+/// The trolley as the paper has it, in the middle of other things.
+pub fn trolley(author: &mut Author) {
+    author.line("trolley");
+    let seats = some_seats(author);
+    for _ in 0..author.random.between(10, 80) {
+        next_call(author, &seats);
+    }
+}
+
+fn begin(author: &mut Author, draft: &catalogues::Draft) {
+    author.catalogue(draft);
+    author.board();
+    author.call("open");
+}
+
+fn some_seats(author: &mut Author) -> Vec<usize> {
+    let mut seats: Vec<usize> = (0..SEATS).collect();
+    author.random.shuffle(&mut seats);
+    let count = author.random.pick(&[1, 2, 3, 8, 8]);
+    seats.truncate(count);
+    seats
+}
+
+/// Another catalogue under the same desk: other rules, other sizes, or both.
+fn change(author: &mut Author) {
+    let mut draft = catalogues::small(&mut author.random);
+    match author.random.below(3) {
+        0 => author.line("rules"),
+        1 => {
+            // The same sizes, one of them a little different.
+            draft.sizes = author.session.sizes.clone();
+            draft.rules.clear();
+            let place = author.random.below(draft.sizes.len());
+            draft.sizes[place] = (draft.sizes[place] % 16) + 1;
+            author.catalogue(&draft);
+        }
+        _ => author.catalogue(&draft),
+    }
+}
+
+/// A call that makes sense in the seat's state, mostly.
+fn next_call(author: &mut Author, seats: &[usize]) {
+    let seat = author.random.pick(seats);
+    if author.random.once_in(12) {
+        let seat = if author.random.once_in(2) { seat } else { author.random.below(SEATS) };
+        return author.any_call(seat);
+    }
+    match author.session.desk.seats[seat].state {
+        State::Closed => author.call(format!("enter {}", seat)),
+        State::AtWork { .. } => {
+            if author.random.once_in(25) {
+                author.call(format!("leave {}", seat));
+            } else {
+                let turns = author.some_turns();
+                author.call(format!("turns {}", turns));
+            }
+        }
+        State::Ready => ready_call(author, seat),
+    }
+}
+
+fn ready_call(author: &mut Author, seat: usize) {
+    let features = author.features();
+    let feature = author.random.below(features);
+    let option = author.random.below(author.size(feature));
+    match author.random.below(20) {
+        0..=8 => {
+            // An option that is left of a feature that has no choice, where there is one.
+            let record = &author.session.desk.seats[seat];
+            let mut left: Vec<(usize, usize)> = Vec::new();
+            for feature in 0..16 {
+                for option in 0..16 {
+                    let shown = record.masks[feature] & (1 << option) != 0;
+                    if shown && record.choices[feature] == NONE {
+                        left.push((feature, option));
+                    }
+                }
+            }
+            let (feature, option) =
+                if left.is_empty() { (feature, option) } else { author.random.pick(&left) };
+            author.call(format!("choose {} {} {}", seat, feature, option));
+        }
+        9..=12 => {
+            let feature = author.chosen(seat).unwrap_or(feature);
+            author.call(format!("relax {} {}", seat, feature));
+        }
+        13 | 14 => author.call(format!("options {} {}", seat, feature)),
+        15..=17 => author.call(format!("example {} {} {}", seat, feature, option)),
+        18 => author.call(format!("leave {}", seat)),
+        _ => author.call(format!("choose {} {} {}", seat, feature, option)),
+    }
+}

@@ -1,0 +1,109 @@
+//! One step of the written search, rules 1 to 5, on whatever record number 20 lets through.
+
+use crate::catalogue::Catalogue;
+use crate::desk::{Record, State, EXAMPLE, NONE};
+use std::ops::Range;
+
+/// "For one pair the candidates at feature j are: a alone if j = i; else the choice in force alone;
+/// else all options, rising."
+fn candidates(catalogue: &Catalogue, record: &Record, i: u8, a: u8, j: u8) -> Range<u8> {
+    let choice = record.choices[usize::from(j)];
+    if j == i {
+        a..a + 1
+    } else if choice != NONE {
+        choice..choice + 1
+    } else {
+        0..catalogue.sizes[usize::from(j)]
+    }
+}
+
+/// The least candidate at j; there always is one.
+fn first(catalogue: &Catalogue, record: &Record, i: u8, a: u8, j: u8) -> u8 {
+    candidates(catalogue, record, i, a, j).start
+}
+
+/// The least candidate at j that is greater than `option` — by value, also when `option` itself is
+/// no candidate.
+fn greater(catalogue: &Catalogue, record: &Record, i: u8, a: u8, j: u8, option: u8) -> Option<u8> {
+    candidates(catalogue, record, i, a, j).find(|&candidate| candidate > option)
+}
+
+/// "Each pair starts at depth 0 with the first candidate there." "In other states the trial is all
+/// 255", and so it is at depth 0.
+pub fn start_pair(catalogue: &Catalogue, record: &mut Record, i: u8, a: u8) {
+    record.trial = [NONE; 16];
+    let v = first(catalogue, record, i, a, 0);
+    record.state = State::AtWork { i, a, j: 0, v };
+}
+
+/// "Ending a pair and starting the next belong to the same step. After the last pair the seat is
+/// ready."
+fn end_pair(catalogue: &Catalogue, record: &mut Record, i: u8, a: u8) {
+    if a + 1 < catalogue.sizes[usize::from(i)] {
+        start_pair(catalogue, record, i, a + 1);
+    } else if usize::from(i) + 1 < catalogue.features() {
+        start_pair(catalogue, record, i + 1, 0);
+    } else {
+        record.trial = [NONE; 16];
+        record.state = State::Ready;
+    }
+}
+
+/// One step of a seat at work. `share` is the seat's own 4,096 bytes.
+pub fn step(catalogue: &Catalogue, record: &mut Record, share: &mut [u8]) {
+    let (i, a, j, v) = match record.state {
+        State::AtWork { i, a, j, v } => (i, a, j, v),
+        State::Closed | State::Ready => return,
+    };
+    let (feature, depth) = (usize::from(i), usize::from(j));
+
+    // 1. "If feature i has a choice other than a, the pair ends without an example."
+    let choice = record.choices[feature];
+    if choice != NONE && choice != a {
+        end_pair(catalogue, record, i, a);
+        return;
+    }
+
+    // 2. "Otherwise v is placed at j and tested against each rule whose highest-numbered feature
+    //    is j." Placed even if it is no candidate.
+    let mut build = record.trial;
+    build[depth] = v;
+    let passed = catalogue.ending_at[depth]
+        .iter()
+        .all(|&rule| catalogue.rules[rule].satisfied_by(&build));
+
+    if passed && depth + 1 == catalogue.features() {
+        // 3. "the build is written as the example, bit a is set in mask i, the pair ends."
+        let place = feature * 256 + usize::from(a) * EXAMPLE;
+        share[place..place + EXAMPLE].copy_from_slice(&build);
+        record.masks[feature] |= 1 << a;
+        end_pair(catalogue, record, i, a);
+    } else if passed {
+        // 4. "depth j+1, its first candidate next."
+        record.trial = build;
+        let v = first(catalogue, record, i, a, j + 1);
+        record.state = State::AtWork { i, a, j: j + 1, v };
+    } else if let Some(v) = greater(catalogue, record, i, a, j, v) {
+        // 5. "the next greater candidate at j"
+        record.state = State::AtWork { i, a, j, v };
+    } else {
+        back(catalogue, record, i, a, j);
+    }
+}
+
+/// Rule 5: "if there is none, back to the nearest earlier depth that has one greater than the option
+/// placed there. If none has, the pair ends without an example."
+fn back(catalogue: &Catalogue, record: &mut Record, i: u8, a: u8, j: u8) {
+    for earlier in (0..j).rev() {
+        let placed = record.trial[usize::from(earlier)];
+        if let Some(v) = greater(catalogue, record, i, a, earlier, placed) {
+            // "entries from j on are 255"
+            for entry in usize::from(earlier)..16 {
+                record.trial[entry] = NONE;
+            }
+            record.state = State::AtWork { i, a, j: earlier, v };
+            return;
+        }
+    }
+    end_pair(catalogue, record, i, a);
+}
