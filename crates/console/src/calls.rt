@@ -1,0 +1,198 @@
+// The desk's calls, and what they are answered by. Board, sizes and rules are here just what the calls get.
+use crate::commands::CHOOSE;
+use crate::commands::ENTER;
+use crate::commands::EXAMPLE;
+use crate::commands::LEAVE;
+use crate::commands::OPEN;
+use crate::commands::OPTIONS;
+use crate::commands::RELAX;
+use crate::commands::TURNS;
+use crate::line::around;
+use crate::line::entries;
+use crate::line::number;
+use crate::line::text;
+use crate::refusal::Asked;
+use crate::refusal::Lengths;
+use crate::refusal::option_of_feature;
+use crate::refusal::refused;
+use desk::Changed;
+use desk::Desk;
+use desk::Left;
+use desk::Turned;
+
+pub fn call(
+    desk: Desk,
+    board: &mut [u8],
+    sizes: &[u8],
+    rules: &[u16],
+    command: usize,
+    asked: Asked,
+) -> Desk {
+    match command {
+        OPTIONS => {
+            options(desk, board, sizes, rules, asked);
+            desk
+        }
+        EXAMPLE => {
+            example(desk, board, sizes, rules, asked);
+            desk
+        }
+        TURNS => turns(desk, board, sizes, rules, asked),
+        _ => change(desk, board, sizes, rules, command, asked),
+    }
+}
+
+// The calls that answer nothing but the desk. A refused open hands back a closed desk, which is not kept.
+fn change(
+    desk: Desk,
+    board: &mut [u8],
+    sizes: &[u8],
+    rules: &[u16],
+    command: usize,
+    asked: Asked,
+) -> Desk {
+    let changed = changed(desk, board, sizes, rules, command, asked);
+    let refusal = changed.number;
+    if refusal != 0 {
+        refused(refusal, lengths(board, sizes, rules), asked);
+        text(b"\n");
+        return desk;
+    }
+    accepted(command, asked);
+    changed.desk
+}
+
+fn changed(
+    desk: Desk,
+    board: &mut [u8],
+    sizes: &[u8],
+    rules: &[u16],
+    command: usize,
+    asked: Asked,
+) -> Changed {
+    let c = asked.seat as usize;
+    let i = asked.feature as usize;
+    let a = asked.option as usize;
+    match command {
+        ENTER => desk::enter(desk, board, sizes, rules, c),
+        LEAVE => desk::leave(desk, board, sizes, rules, c),
+        CHOOSE => desk::choose(desk, board, sizes, rules, c, i, a),
+        RELAX => desk::relax(desk, board, sizes, rules, c, i),
+        _ => desk::open(board, sizes, rules),
+    }
+}
+
+fn accepted(command: usize, asked: Asked) {
+    let seat = asked.seat as u64;
+    match command {
+        OPEN => text(b"opened: eight seats, all closed\n"),
+        ENTER => around(b"seat ", seat, b" has entered and is at work\n"),
+        LEAVE => around(b"seat ", seat, b" has left\n"),
+        CHOOSE => {
+            around(b"seat ", seat, b" chose ");
+            option_of_feature(asked, b" and is at work\n");
+        }
+        _ => {
+            around(b"seat ", seat, b" dropped its choice of feature ");
+            number(asked.feature as u64);
+            text(b" and is at work\n");
+        }
+    }
+}
+
+fn turns(desk: Desk, board: &mut [u8], sizes: &[u8], rules: &[u16], asked: Asked) -> Desk {
+    let turned = turned(desk, board, sizes, rules, asked.seat);
+    let refusal = turned.number;
+    if refusal != 0 {
+        refused(refusal, lengths(board, sizes, rules), asked);
+        text(b"\n");
+        return desk;
+    }
+    number(turned.made as u64);
+    if turned.working {
+        text(b" turns made, a seat is at work\n");
+    } else {
+        text(b" turns made, no seat is at work\n");
+    }
+    turned.desk
+}
+
+fn turned(desk: Desk, board: &mut [u8], sizes: &[u8], rules: &[u16], w: u32) -> Turned {
+    desk::turns(desk, board, sizes, rules, (w % 65536) as u16)
+}
+
+fn options(desk: Desk, board: &[u8], sizes: &[u8], rules: &[u16], asked: Asked) {
+    let left = left(desk, board, sizes, rules, asked.seat, asked.feature);
+    let refusal = left.number;
+    if refusal == 0 {
+        options_left(left, asked.feature);
+    } else {
+        refused(refusal, lengths(board, sizes, rules), asked);
+    }
+    text(b"\n");
+}
+
+pub fn left(desk: Desk, board: &[u8], sizes: &[u8], rules: &[u16], c: u32, i: u32) -> Left {
+    desk::options(desk, board, sizes, rules, c as usize, i as usize)
+}
+
+pub fn options_left(left: Left, feature: u32) {
+    around(b"feature ", feature as u64, b": ");
+    around(b"", left.count as u64, b" left");
+    if left.mask != 0 {
+        text(b":");
+        options_of(left.mask);
+    }
+}
+
+// The bits of a mask, rising.
+fn options_of(mask: u16) {
+    let mut rest = mask;
+    let mut a = 0u64;
+    while a < 16 {
+        if rest % 2 == 1 {
+            around(b" ", a, b"");
+        }
+        rest = rest / 2;
+        a += 1;
+    }
+}
+
+fn example(desk: Desk, board: &[u8], sizes: &[u8], rules: &[u16], asked: Asked) {
+    let refusal = example_number(desk, board, sizes, rules, asked);
+    if refusal == 0 {
+        option_of_feature(asked, b":");
+    } else {
+        refused(refusal, lengths(board, sizes, rules), asked);
+    }
+    entries(example_bytes(desk, board, sizes, rules, asked));
+    text(b"\n");
+}
+
+fn example_number(desk: Desk, board: &[u8], sizes: &[u8], rules: &[u16], asked: Asked) -> u8 {
+    let c = asked.seat as usize;
+    let i = asked.feature as usize;
+    let a = asked.option as usize;
+    desk::example_number(desk, board, sizes, rules, c, i, a)
+}
+
+pub fn example_bytes<'a>(
+    desk: Desk,
+    board: &'a [u8],
+    sizes: &[u8],
+    rules: &[u16],
+    asked: Asked,
+) -> &'a [u8] {
+    let c = asked.seat as usize;
+    let i = asked.feature as usize;
+    let a = asked.option as usize;
+    desk::example(desk, board, sizes, rules, c, i, a)
+}
+
+pub fn lengths(board: &[u8], sizes: &[u8], rules: &[u16]) -> Lengths {
+    Lengths {
+        board: board.len(),
+        sizes: sizes.len(),
+        rules: rules.len(),
+    }
+}

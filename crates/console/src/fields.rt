@@ -1,0 +1,83 @@
+// The desk's fields, set by hand to anything.
+use crate::commands::SET_CHOICE;
+use crate::commands::SET_CLOSED;
+use crate::commands::SET_MASK;
+use crate::commands::SET_NEXT;
+use crate::commands::SET_READY;
+use crate::commands::SET_WORK;
+use crate::words::at;
+use desk::Desk;
+use seat::Place;
+use seat::Seat;
+use seat::State;
+
+pub fn set(desk: Desk, command: usize, numbers: &[u32]) -> Desk {
+    let c = at(numbers, 0) as usize;
+    let seats = desk.seats;
+    if command == SET_NEXT {
+        let next = byte(numbers, 0);
+        return Desk { seats, next };
+    }
+    if 8 <= c {
+        return desk;
+    }
+    let seat = set_seat(seats[c], command, numbers);
+    with_seat(desk, c, seat)
+}
+
+fn set_seat(seat: Seat, command: usize, numbers: &[u32]) -> Seat {
+    match command {
+        SET_CLOSED => with_state(seat, State::Closed),
+        SET_READY => with_state(seat, State::Ready),
+        SET_WORK => with_state(seat, State::AtWork(place(numbers))),
+        _ => with_entry(seat, command, numbers),
+    }
+}
+
+fn with_entry(seat: Seat, command: usize, numbers: &[u32]) -> Seat {
+    let mut changed = seat;
+    let i = at(numbers, 1) as usize;
+    if 16 <= i {
+        return changed;
+    }
+    match command {
+        SET_CHOICE => changed.choices[i] = byte(numbers, 2),
+        SET_MASK => changed.masks[i] = (at(numbers, 2) % 65536) as u16,
+        _ => changed.trial[i] = byte(numbers, 2),
+    }
+    changed
+}
+
+fn with_state(seat: Seat, state: State) -> Seat {
+    let choices = seat.choices;
+    let masks = seat.masks;
+    let trial = seat.trial;
+    Seat {
+        state,
+        choices,
+        masks,
+        trial,
+    }
+}
+
+fn with_seat(desk: Desk, c: usize, seat: Seat) -> Desk {
+    let mut seats = desk.seats;
+    if c < 8 {
+        seats[c] = seat;
+    }
+    let next = desk.next;
+    Desk { seats, next }
+}
+
+fn place(numbers: &[u32]) -> Place {
+    Place {
+        feature: byte(numbers, 1),
+        option: byte(numbers, 2),
+        depth: byte(numbers, 3),
+        next: byte(numbers, 4),
+    }
+}
+
+fn byte(numbers: &[u32], i: usize) -> u8 {
+    (at(numbers, i) % 256) as u8
+}

@@ -1,0 +1,221 @@
+// A script: lines read to the end of a file, each answered as soon as it is whole.
+use crate::answer::Sitting;
+use crate::answer::answer;
+use crate::answer::not_understood;
+use crate::line::around;
+use crate::line::text;
+use crate::room;
+use crate::words::Stretch;
+use crate::words::between;
+use crate::words::end_of;
+
+const LONGEST: usize = 65536;
+
+struct Reading {
+    sitting: Sitting,
+    length: usize, // of the line so far; LONGEST + 1 for any that is too long
+    at: usize, // where the bytes that came last are read on
+    more: bool, // whether to ask for more
+}
+
+pub fn script(fd: i32) {
+    let mut board = [0u8; 40000];
+    let mut sizes = [0u8; 64];
+    let mut rules = [0u16; 9000];
+    let mut numbers = [0u32; 9000];
+    let room = room::trolley(&mut board, &mut sizes, &mut rules);
+    let start = Sitting {
+        room,
+        answered: 0,
+        not_understood: 0,
+        ended: false,
+    };
+    let sitting = lines(fd, start, &mut board, &mut sizes, &mut rules, &mut numbers);
+    around(b"end: ", sitting.answered, b" answered, ");
+    around(b"", sitting.not_understood, b" not understood\n");
+}
+
+// The last line may lack its line feed; after quit, and where it doesn't, none of it is left.
+fn lines(
+    fd: i32,
+    start: Sitting,
+    board: &mut [u8],
+    sizes: &mut [u8],
+    rules: &mut [u16],
+    numbers: &mut [u32],
+) -> Sitting {
+    let mut line = [0u8; 65536];
+    let reading = Reading {
+        sitting: start,
+        length: 0,
+        at: 0,
+        more: true,
+    };
+    let mut chunk = [0u8; 65536];
+    let last = read_all(
+        fd,
+        reading,
+        board,
+        sizes,
+        rules,
+        numbers,
+        &mut line,
+        &mut chunk,
+    );
+    whole(
+        last.sitting,
+        board,
+        sizes,
+        rules,
+        numbers,
+        &line,
+        last.length,
+    )
+}
+
+// Nothing says that input ends, so the loop counts its turns down from a number that no run uses up.
+fn read_all(
+    fd: i32,
+    start: Reading,
+    board: &mut [u8],
+    sizes: &mut [u8],
+    rules: &mut [u16],
+    numbers: &mut [u32],
+    line: &mut [u8],
+    chunk: &mut [u8],
+) -> Reading {
+    let mut reading = start;
+    let mut turns = u64::MAX;
+    while 0 < turns {
+        reading = read_on(fd, reading, board, sizes, rules, numbers, line, chunk);
+        if !reading.more {
+            return reading;
+        }
+        turns -= 1;
+    }
+    reading
+}
+
+fn read_on(
+    fd: i32,
+    reading: Reading,
+    board: &mut [u8],
+    sizes: &mut [u8],
+    rules: &mut [u16],
+    numbers: &mut [u32],
+    line: &mut [u8],
+    chunk: &mut [u8],
+) -> Reading {
+    let count = read_some(fd, chunk);
+    let mut before = reading;
+    before.at = 0;
+    before.more = 0 < count;
+    feed(
+        before,
+        board,
+        sizes,
+        rules,
+        numbers,
+        line,
+        between(chunk, 0, count),
+    )
+}
+
+// A read that fails counts as the end.
+fn read_some(fd: i32, chunk: &mut [u8]) -> usize {
+    let got = libc::read(fd, chunk);
+    io::count(got, chunk)
+}
+
+// Answers each line that these bytes end.
+fn feed(
+    before: Reading,
+    board: &mut [u8],
+    sizes: &mut [u8],
+    rules: &mut [u16],
+    numbers: &mut [u32],
+    line: &mut [u8],
+    bytes: &[u8],
+) -> Reading {
+    let mut reading = before;
+    let mut left = bytes.len();
+    while 0 < left {
+        reading = next_line(reading, board, sizes, rules, numbers, line, bytes);
+        if is_over(reading, bytes.len()) {
+            return reading;
+        }
+        left -= 1;
+    }
+    reading
+}
+
+fn is_over(reading: Reading, count: usize) -> bool {
+    if !reading.more {
+        return true;
+    }
+    reading.at == count
+}
+
+// Takes what these bytes have of one line, and answers the line if they end it.
+fn next_line(
+    reading: Reading,
+    board: &mut [u8],
+    sizes: &mut [u8],
+    rules: &mut [u16],
+    numbers: &mut [u32],
+    line: &mut [u8],
+    bytes: &[u8],
+) -> Reading {
+    let end = end_of(bytes, reading.at, Stretch::Line);
+    let length = append(line, reading.length, between(bytes, reading.at, end));
+    let mut after = reading;
+    after.length = length;
+    after.at = end;
+    if end == bytes.len() {
+        return after;
+    }
+    after.length = 0;
+    after.at = end + 1;
+    let sitting = whole(reading.sitting, board, sizes, rules, numbers, line, length);
+    after.sitting = sitting;
+    after.more = !sitting.ended;
+    after
+}
+
+// Bytes put to the end of a line; answers its length.
+fn append(line: &mut [u8], length: usize, bytes: &[u8]) -> usize {
+    let mut to = length;
+    let mut i = 0usize;
+    while i < bytes.len() {
+        if line.len() <= to {
+            return LONGEST + 1;
+        }
+        line[to] = bytes[i];
+        to += 1;
+        i += 1;
+    }
+    to
+}
+
+fn whole(
+    sitting: Sitting,
+    board: &mut [u8],
+    sizes: &mut [u8],
+    rules: &mut [u16],
+    numbers: &mut [u32],
+    line: &[u8],
+    length: usize,
+) -> Sitting {
+    if LONGEST < length {
+        text(b"not understood; a line has at most 65536 bytes\n");
+        return not_understood(sitting);
+    }
+    answer(
+        sitting,
+        board,
+        sizes,
+        rules,
+        numbers,
+        between(line, 0, length),
+    )
+}
