@@ -2,6 +2,7 @@
 mod candidates;
 mod fit;
 mod job;
+mod lent;
 mod search;
 mod share;
 
@@ -11,6 +12,7 @@ pub use job::close;
 pub use job::closed;
 pub use job::enter;
 pub use job::relax;
+pub use lent::step_in;
 pub use search::step;
 pub use share::empty;
 
