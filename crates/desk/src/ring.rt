@@ -10,7 +10,10 @@ ghost use mathlib.Core.List.{map};
 ghost use Prim.Native.Nat.{_<_};
 ghost use lib.ListN.{length};
 ghost use Rattle.catalogue.specs.Fault.{faultOf};
+ghost use Rattle.catalogue.specs.Starts.{AllStarts};
 ghost use Rattle.seat.specs.declared.Seat.{Seat};
+ghost use Rattle.seat.specs.Fit.{seatFits};
+ghost use Rattle.seat.specs.Step.{step};
 ghost use Rattle.desk.specs.Call.{turns};
 ghost use Rattle.desk.specs.Answers.{TurnsTo, foundOf, trueFrom};
 ghost use Rattle.desk.specs.Fit.{deskFits};
@@ -58,7 +61,7 @@ fn make_turns(desk: Desk, board: &mut [u8], sizes: &[u8], rules: &[u16], w: u16)
         };
         let from = c * 4096;
         let to = from + 4096;
-        let seat = seat::step(
+        let seat = stepped(
             seats[c],
             &mut board[from..to],
             sizes,
@@ -78,6 +81,25 @@ fn make_turns(desk: Desk, board: &mut [u8], sizes: &[u8], rules: &[u16], w: u16)
         working: is_someone(found),
         desk: Desk { seats, next },
     }
+}
+
+// One step for the seat that is served: its record is lent for the step, and handed back as the step left it.
+fn stepped(
+    mut seat: Seat,
+    share: &mut [u8],
+    sizes: &[u8],
+    rules: &[u16],
+    places: &[u16],
+    counts: &[u8],
+) -> Seat
+    requires { ⌜ faultOf (record { sizes = now sizes; list = now rules }) ≡ 0 ⌝ }
+    requires { ⌜ seatFits (record { sizes = now sizes; list = now rules }) seat ≡ true ⌝ }
+    requires { ⌜ length (now share) ≡ 4096 ⌝ }
+    requires { ⌜ AllStarts (now rules) (now places) (now counts) ⌝ }
+    ensures { λ r. ⌜ record { seat = r; share = now (share .exit) } ≡ step (record { sizes = now (sizes .entry); list = now (rules .entry) }) (record { seat = seat; share = now (share .entry) }) ⌝ }
+{
+    seat::step_in(&mut seat, share, sizes, rules, places, counts);
+    seat
 }
 
 // Which of the eight seats are at work.
