@@ -1,6 +1,6 @@
 -- What the walks of the functions that lend a clinic's record share: the record as one machine value, of which no field is
 -- named; the slices that a step is handed beside it; and a record that lies in memory.
-use mathlib.Core.Path.{refl}
+use mathlib.Core.Path.{_≡_, refl}
 use mathlib.Core.List.{[], _∷_, List}
 use Prim.Native.Nat.{ℕ, _+_}
 use lib.Dec.{T as Holds}
@@ -26,6 +26,8 @@ use denote.Exit.{yes}
 use denote.Triple.End.{Kepts, all}
 use denote.Triple.Walked.{Stays, gave-slice, stay-dropped, AllGo, goes-gave-slice, goes-dropped}
 use Rattle.seat.specs.declared.Seat.{Seat}
+use Rattle.seat.specs.Clinic.{Clinic}
+use Rattle.seat.specs.Step.{step}
 use Rattle.seat.proofs.Seat as T
 use Rattle.seat.proofs.Seat.Laws as T′
 
@@ -41,6 +43,11 @@ values seat = machine seat ∷ []
 
 pub typed : {M : Type 1} (𝓤 : URA M) (H : Heap 𝓤) (A : Atoms 𝓤) (W : Given 𝓤 H A) (seat : Seat) (v : Val) → Is Record seat (v ∷ []) → Holds (hasTy T′.mir v) × WT v
 typed 𝓤 H A W seat v is = LL.lawful T.the-type T′.the-laws 𝓤 H A W .typed seat _ is .0
+
+-- what a step ensures of the record and the share that it was handed, and of those that it leaves
+abbrev pub StepMade : List ℕ → List ℕ → Seat → List ℕ → Seat → List ℕ → Type 0
+StepMade sizes rules seat share seat′ share′ =
+    _≡_ {A = Clinic} (record { seat = seat′; share = share′ }) (step (record { sizes = sizes; list = rules }) (record { seat = seat; share = share }))
 
 -- The slices: the share, which the step writes, and the sizes, the rules and the two lists of where rules begin, which it
 -- only reads. The first is at lifetime i of n.

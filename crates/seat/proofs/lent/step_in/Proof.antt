@@ -1,7 +1,6 @@
 -- `step_in` meets its contract: a walk of its code. The borrow of the record is opened, the record's value is handed whole
 -- to `step`, of which the proof knows only that it meets its contract, what `step` returns is stored over it, and the borrow
--- is closed at that. No field of the record is named, and no clause is read: what `step_in` requires is what `step`
--- requires, and what `step` ensures is what `step_in` ensures, each by computation.
+-- is closed at that. No field of the record is named. What `step_in` requires is what `step` requires, by computation.
 use mathlib.Core.Path.{_≡_, refl}
 use Prim.Native.Nat.{ℕ}
 use mathlib.Core.List.{[], _∷_, List}
@@ -17,7 +16,7 @@ use prog.Routine.{Routine}
 use prog.Wp.{Heap, Calls, Loops, WpFn, Tables}
 use ghost.Atoms.{Atoms, sem}
 use contract.Lifetimes.{Lfts, Shares}
-use contract.Monad.{Fun}
+use contract.Monad.{Fun, fact}
 use contract.Running.{givenOf, tables, tablesOf}
 use types.Kit.{Given, ‵, raw, some, later, _⊛_, ⋆, _$_, _∵_, !, qed, by, move, keep, drop, use1, split, join, pick, fsplit, fsplit3, fjoin, fjoin3, feqL, feqI, suffices, await, done}
 use types.Run.{look, look-raw, init, store-raw, forget, stop, hop, fld, from, load, addr, unit-lit, of-opd, and-then, no-more, assigns, land, returns, enter, alloc1, alloc0, params1, pass1, pass0, free1, free0}
@@ -30,7 +29,7 @@ use denote.Memory.{mem}
 use denote.Builtin.{u8}
 use denote.Ref.{MutRef, ptr-vals, mut-tells}
 use denote.Slice.{finally}
-use denote.Steps.{opens, closes, peeks, nothing}
+use denote.Steps.{opens, closes, heard, peeks, nothing}
 use denote.Struct.Steps.{spelt}
 use denote.Struct.Laws as LL
 use denote.Signature.{plain, typesAt}
@@ -38,13 +37,13 @@ use denote.Triple.Entry.{Args, Vals, alive, onEntry}
 use denote.Triple.Spec.{Meets, tripleOf}
 use denote.Triple.Statement.{Contract, Triple}
 use denote.Triple.Call.{calls-at}
-use denote.Triple.Clauses.{Lasts, ensured, lasts, atExit}
+use denote.Triple.Clauses.{Lasts, ensured, lasts}
 use denote.Triple.Table.{entered, cited}
-use denote.Triple.Walked.{Stays, stay-ref, walkOf, goes-ref, Walks, ends-at, walked, walk-meets}
+use denote.Triple.Walked.{says, Stays, stay-ref, walkOf, goes-ref, Walks, ends-at, walked, walk-meets}
 use Rattle.seat.specs.declared.Seat.{Seat}
 use Rattle.seat.proofs.Seat as T
 use Rattle.seat.proofs.Seat.Laws as T′
-use Rattle.seat.proofs.LentRecord.{Record, machine, values, typed, slices, spelled, told, stay, go}
+use Rattle.seat.proofs.LentRecord.{Record, machine, values, typed, StepMade, slices, spelled, told, stay, go}
 use Rattle.seat.proofs.search.step as step
 use Rattle.seat.proofs.search.step.Symbol as step-def
 use Rattle.seat.proofs.search.step.Symbol.{name as #seat·step}
@@ -98,18 +97,18 @@ module _ {M : Type 1} (𝓤 : URA M) (H : Heap 𝓤) (A : Atoms 𝓤) (W : Given
   abbrev tokens : SProp 𝓤
   tokens = alive 𝓤 H A step.signature (κs .1) (qs .1)
 
-  -- what `step` ensures of a record and a share
-  abbrev said : (r : Seat) → Lasts step.ended (κs .1) passed → SProp 𝓤
-  said r ws = step.clauses 𝓤 H A at-mem run (κs .1) passed .ensures tt r (atExit step.ended (κs .1) passed ws)
+  -- what `step` ensures of the record r and the share ys that it leaves
+  abbrev Made : Seat → List ℕ → Type 0
+  Made r ys = StepMade (a .1 .1 .0 .now) (a .1 .1 .1 .0 .now) h (a .1 .0 .now) r ys
 
-  exits : (r : Seat) (ws : Lasts step.ended (κs .1) passed) → length (ws .1 .0) ≡ length (a .1 .0 .now)
-      → ent 𝓤 (⋆ 𝓤 H A (‵ (fobs γ (Record .coded .code r)) ∷ ‵ (fbor (κs .0) (Body (mem Record) b o γ)) ∷ ‵ (flft (κs .0) (qs .0)) ∷ raw tokens ∷ ‵ (finally u8 (a .1 .0 .name) (ws .1 .0)) ∷ raw (said r ws) ∷ [])) (Post vunit)
-  exits r ws l =
-      qed W (‵ (fobs γ (Record .coded .code r)) ∷ ‵ (fbor (κs .0) (Body (mem Record) b o γ)) ∷ ‵ (flft (κs .0) (qs .0)) ∷ raw tokens ∷ ‵ (finally u8 (a .1 .0 .name) (ws .1 .0)) ∷ raw (said r ws) ∷ []) ∵
-      suffices ! _ (ends-at 𝓤 H A step-in.ended stayed (step-in.clauses 𝓤 H A at-mem run) W ((κs, qs, tt, a, vss), tt) vunit tt (r, ws .1) (tt, (l, (tt, (tt, (tt, (tt, tt))))))) $
+  exits : (r : Seat) (ws : Lasts step.ended (κs .1) passed) → length (ws .1 .0) ≡ length (a .1 .0 .now) → Made r (ws .1 .0)
+      → ent 𝓤 (⋆ 𝓤 H A (‵ (fobs γ (Record .coded .code r)) ∷ ‵ (fbor (κs .0) (Body (mem Record) b o γ)) ∷ ‵ (flft (κs .0) (qs .0)) ∷ raw tokens ∷ ‵ (finally u8 (a .1 .0 .name) (ws .1 .0)) ∷ [])) (Post vunit)
+  exits r ws l e =
+      qed W (‵ (fobs γ (Record .coded .code r)) ∷ ‵ (fbor (κs .0) (Body (mem Record) b o γ)) ∷ ‵ (flft (κs .0) (qs .0)) ∷ raw tokens ∷ ‵ (finally u8 (a .1 .0 .name) (ws .1 .0)) ∷ []) ∵
+      suffices ! _ (ends-at 𝓤 H A step-in.ended stayed (step-in.clauses 𝓤 H A at-mem run) W ((κs, qs, tt, a, vss), tt) vunit tt (r, ws .1) (tt, (l, (tt, (tt, (tt, (tt, tt))))))) $ says ! e $
       feqI ! (List Val) (vptr b o ∷ []) (vptr b o ∷ []) refl $ fjoin3 ! $ nothing ! $ nothing ! $ fjoin ! $ nothing ! $ fjoin ! $ nothing ! $ fjoin ! $ nothing ! $ fjoin ! $
-      -- [nothing of the `&` slices; the record's reference; its token; the others'; the last share; what is ensured]
-      move ! (4 ∷ 0 ∷ []) $ fjoin ! $ move ! (1 ∷ 0 ∷ []) $ fjoin ! $ feqI ! (List Val) (vunit ∷ []) (vunit ∷ []) refl $ move ! (1 ∷ 0 ∷ []) $ join ! $ move ! (1 ∷ 2 ∷ []) $ join ! $ join ! $ done !
+      -- [nothing of the `&` slices; the record's reference; its token; the others'; the last share]
+      move ! (4 ∷ 0 ∷ []) $ fjoin ! $ move ! (1 ∷ 0 ∷ []) $ fjoin ! $ feqI ! (List Val) (vunit ∷ []) (vunit ∷ []) refl $ move ! (1 ∷ 0 ∷ []) $ join ! $ move ! (1 ∷ 2 ∷ []) $ join ! $ done !
 
   module _ (C : Calls 𝓤 H) (Λ : Loops 𝓤 H) (fm : FmC 𝓤 H (W .laws) C) (known : Triple 𝓤 (C #seat·step) (Step 𝓤 H A at-mem run)) where
     walk : Are (beside κs) (Ises (beside κs)) (a .1) (vss .1)
@@ -134,18 +133,18 @@ module _ {M : Type 1} (𝓤 : URA M) (H : Heap 𝓤) (A : Atoms 𝓤) (W : Given
         (and-then ! (load ! (from ! (stop !)) (look ! 9 refl)) (and-then ! (load ! (from ! (stop !)) (look ! 5 refl)) (and-then ! (load ! (from ! (stop !)) (look ! 19 refl)) (and-then ! (load ! (from ! (stop !)) (look ! 17 refl)) (and-then ! (load ! (from ! (stop !)) (look ! 15 refl)) (and-then ! (load ! (from ! (stop !)) (look ! 13 refl)) (no-more !))))))) (λ v.
         use1 W (later (some (λ (r : Seat). (raw tokens ⊛ ‵ (Record .own r (v ∷ []))) ⊛ raw (ensured 𝓤 H A step.ended (step.clauses 𝓤 H A at-mem run) (κs .1) passed tt r)))) (id⊢ 𝓤 _) $ await ! tt $ pick ! (λ r.
         -- what `step` ensures, at some last share
-        split ! $ move ! (1 ∷ []) $ use1 W (some (λ (ws : Lasts step.ended (κs .1) passed). ‵ (lasts step.ended (κs .1) passed ws) ⊛ raw (said r ws))) (id⊢ 𝓤 _) $ pick ! (λ ws.
-        split ! $ fsplit ! $ drop ! $ fsplit ! $ fsplit ! $ move ! (1 ∷ []) $ feqL ! (λ l.
-        move ! (3 ∷ []) $ split ! $ move ! (1 ∷ []) $ peeks ! Record (Is Record) (shows 𝓤 H A Record) r (v ∷ []) (λ is′.
-        -- [what the new record owns; the tokens; the last share; …; what is ensured; the cell; the open borrow; obs; auth; _10; …; _9; …; _8; …; _7; …; _6 to _2; _1; …; room for _0; …]
-        land ! (from ! (stop !)) (init ! 15 refl (typed 𝓤 H A W r v is′)) $
-        assigns ! (of-opd ! (load ! (from ! (stop !)) (look ! 15 refl))) (from ! (hop ! (look ! 27 refl) (stop !))) (store-raw ! 5 refl (typed 𝓤 H A W r v is′)) $
-        assigns ! (of-opd ! (unit-lit !)) (from ! (stop !)) (init ! 29 refl (tt, tt)) $
-        move ! (5 ∷ 0 ∷ 6 ∷ 7 ∷ 8 ∷ []) $ closes ! tt Record r (v ∷ []) b o $
-        returns ! (look ! 27 refl) $ forget ! 7 refl $ forget ! 9 refl $ forget ! 11 refl $ forget ! 13 refl $ forget ! 15 refl $ forget ! 17 refl $ forget ! 19 refl $ forget ! 21 refl $ forget ! 23 refl $ forget ! 25 refl $ forget ! 27 refl $
-        move ! (27 ∷ 28 ∷ []) $ free1 ! $ move ! (25 ∷ 26 ∷ []) $ free1 ! $ move ! (23 ∷ 24 ∷ []) $ free1 ! $ move ! (21 ∷ 22 ∷ []) $ free1 ! $ move ! (19 ∷ 20 ∷ []) $ free1 ! $ move ! (17 ∷ 18 ∷ []) $ free1 ! $
-        move ! (15 ∷ 16 ∷ []) $ free1 ! $ move ! (13 ∷ 14 ∷ []) $ free1 ! $ move ! (11 ∷ 12 ∷ []) $ free1 ! $ move ! (9 ∷ 10 ∷ []) $ free1 ! $ move ! (7 ∷ 8 ∷ []) $ free1 ! $ free0 ! $
-        keep ! (0 ∷ 1 ∷ 2 ∷ 3 ∷ 4 ∷ 6 ∷ []) $ by ! (exits r ws l)))))))))))))))))))
+        split ! $ move ! (1 ∷ []) $ use1 W (some (λ (ws : Lasts step.ended (κs .1) passed). ‵ (lasts step.ended (κs .1) passed ws) ⊛ raw (fact 𝓤 (Made r (ws .1 .0))))) (id⊢ 𝓤 _) $ pick ! (λ ws.
+        split ! $ move ! (1 ∷ []) $ heard ! (Made r (ws .1 .0)) (λ e. fsplit ! $ drop ! $ fsplit ! $ fsplit ! $ move ! (1 ∷ []) $ feqL ! (λ l.
+        move ! (2 ∷ []) $ split ! $ move ! (1 ∷ []) $ peeks ! Record (Is Record) (shows 𝓤 H A Record) r (v ∷ []) (λ is′.
+        -- [what the new record owns; the tokens; the last share; …; the cell; the open borrow; obs; auth; _10; …; _9; …; _8; …; _7; …; _6 to _2; _1; …; room for _0; …]
+        land ! (from ! (stop !)) (init ! 14 refl (typed 𝓤 H A W r v is′)) $
+        assigns ! (of-opd ! (load ! (from ! (stop !)) (look ! 14 refl))) (from ! (hop ! (look ! 26 refl) (stop !))) (store-raw ! 4 refl (typed 𝓤 H A W r v is′)) $
+        assigns ! (of-opd ! (unit-lit !)) (from ! (stop !)) (init ! 28 refl (tt, tt)) $
+        move ! (4 ∷ 0 ∷ 5 ∷ 6 ∷ 7 ∷ []) $ closes ! tt Record r (v ∷ []) b o $
+        returns ! (look ! 26 refl) $ forget ! 6 refl $ forget ! 8 refl $ forget ! 10 refl $ forget ! 12 refl $ forget ! 14 refl $ forget ! 16 refl $ forget ! 18 refl $ forget ! 20 refl $ forget ! 22 refl $ forget ! 24 refl $ forget ! 26 refl $
+        move ! (26 ∷ 27 ∷ []) $ free1 ! $ move ! (24 ∷ 25 ∷ []) $ free1 ! $ move ! (22 ∷ 23 ∷ []) $ free1 ! $ move ! (20 ∷ 21 ∷ []) $ free1 ! $ move ! (18 ∷ 19 ∷ []) $ free1 ! $ move ! (16 ∷ 17 ∷ []) $ free1 ! $
+        move ! (14 ∷ 15 ∷ []) $ free1 ! $ move ! (12 ∷ 13 ∷ []) $ free1 ! $ move ! (10 ∷ 11 ∷ []) $ free1 ! $ move ! (8 ∷ 9 ∷ []) $ free1 ! $ move ! (6 ∷ 7 ∷ []) $ free1 ! $ free0 ! $
+        keep ! (0 ∷ 1 ∷ 2 ∷ 3 ∷ 4 ∷ []) $ by ! (exits r ws l e))))))))))))))))))))
 
 module _ {M : Type 1} (𝓤 : URA M) (H : Heap 𝓤) (A : Atoms 𝓤) (W : Given 𝓤 H A) (mem : Memory → SProp 𝓤) (run : Routine → Fun 𝓤) where
   step-in-walks : (C : Calls 𝓤 H) (Λ : Loops 𝓤 H) → FmC 𝓤 H (W .laws) C → Triple 𝓤 (C #seat·step) (Step 𝓤 H A mem run) → Walks 𝓤 H A step-in.ended stayed (WpFn 𝓤 H C Λ code.function) (step-in.clauses 𝓤 H A mem run)
