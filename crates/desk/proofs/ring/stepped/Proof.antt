@@ -1,6 +1,6 @@
 -- `stepped` meets its contract: a walk of its code. The record lies in a local; it is lent to `step_in` for a lifetime that
--- is made for the call, and comes back as `step_in` says it was left. No field of the record is named and no clause is read:
--- what `stepped` requires is what `step_in` requires, and what `step_in` ensures is what `stepped` ensures, by computation.
+-- is made for the call, and comes back as `step_in` says it was left. No field of the record is named. What `stepped` requires
+-- is what `step_in` requires, by computation.
 use mathlib.Core.Path.{_≡_, refl}
 use Prim.Native.Nat.{ℕ}
 use mathlib.Core.List.{[], _∷_, List}
@@ -16,7 +16,7 @@ use prog.Routine.{Routine}
 use prog.Wp.{Heap, Calls, Loops, WpFn, Tables}
 use ghost.Atoms.{Atoms}
 use contract.Lifetimes.{Lfts, Shares}
-use contract.Monad.{Fun}
+use contract.Monad.{Fun, fact}
 use contract.Running.{givenOf, tables, tablesOf}
 use types.Kit.{Given, ‵, raw, some, later, _⊛_, ⋆, _$_, _∵_, !, qed, by, move, keep, use1, use2, use3, split, join, pick, fsplit, fjoin, feqL, suffices, await, done}
 use types.Run.{look, init, forget, stop, hop, fld, from, load, addr, of-opd, and-then, no-more, assigns, land, returns, enter, alloc1, alloc0, params1, pass1, pass0, free1, free0}
@@ -32,21 +32,21 @@ use denote.Plain.{nothing-lawful}
 use denote.Lend.{lends-ref, ref-back}
 use denote.Ref.{MutRef}
 use denote.Slice.{finally}
-use denote.Steps.{peeks, nothing}
+use denote.Steps.{heard, peeks, nothing}
 use denote.Struct.Laws as LL
 use denote.Signature.{plain, typesAt}
 use denote.Triple.Entry.{Args, Vals, alive, onEntry}
 use denote.Triple.Spec.{Meets, tripleOf}
 use denote.Triple.Statement.{Contract, Triple}
 use denote.Triple.Call.{calls-at}
-use denote.Triple.Clauses.{Lasts, ensured, lasts, atExit}
+use denote.Triple.Clauses.{Lasts, ensured, lasts}
 use denote.Triple.Table.{entered, cited}
-use denote.Triple.Walked.{Stays, stay-dropped, walkOf, goes-dropped, Walks, ends-at, walked, walk-meets}
+use denote.Triple.Walked.{says, Stays, stay-dropped, walkOf, goes-dropped, Walks, ends-at, walked, walk-meets}
 use denote.Exit.{yes}
 use Rattle.seat.specs.declared.Seat.{Seat}
 use Rattle.seat.proofs.Seat as T
 use Rattle.seat.proofs.Seat.Laws as T′
-use Rattle.seat.proofs.LentRecord.{Record, machine, values, typed, lies-in, lies-out, slices, spelled, told, stay, go}
+use Rattle.seat.proofs.LentRecord.{Record, machine, values, typed, StepMade, lies-in, lies-out, slices, spelled, told, stay, go}
 use Rattle.seat.proofs.step_in as step-in
 use Rattle.seat.proofs.step_in.Symbol as step-in-def
 use Rattle.seat.proofs.step_in.Symbol.{name as #seat·step-in}
@@ -94,18 +94,18 @@ module _ {M : Type 1} (𝓤 : URA M) (H : Heap 𝓤) (A : Atoms 𝓤) (W : Given
   abbrev tokens : SProp 𝓤
   tokens = alive 𝓤 H A stepped.signature κs qs
 
-  -- what `step_in` ensures at last values
-  abbrev said : (l ν : ℕ) (γ : GName) → Lasts step-in.ended (lent-for ν) (passed l ν γ) → SProp 𝓤
-  said l ν γ ws = step-in.clauses 𝓤 H A at-mem run (lent-for ν) (passed l ν γ) .ensures tt tt (atExit step-in.ended (lent-for ν) (passed l ν γ) ws)
+  -- what `step_in` ensures of the record r and the share ys that it leaves
+  abbrev Made : Seat → List ℕ → Type 0
+  Made r ys = StepMade (a .1 .1 .0 .now) (a .1 .1 .1 .0 .now) h (a .1 .0 .now) r ys
 
-  exits : (l ν : ℕ) (γ : GName) (ws : Lasts step-in.ended (lent-for ν) (passed l ν γ)) → length (ws .1 .0) ≡ length (a .1 .0 .now)
-      → ent 𝓤 (⋆ 𝓤 H A (‵ (Record .own (ws .0) (values (ws .0))) ∷ raw tokens ∷ ‵ (finally u8 (a .1 .0 .name) (ws .1 .0)) ∷ raw (said l ν γ ws) ∷ [])) (Post (machine (ws .0)))
-  exits l ν γ ws e =
-      qed W (‵ (Record .own (ws .0) (values (ws .0))) ∷ raw tokens ∷ ‵ (finally u8 (a .1 .0 .name) (ws .1 .0)) ∷ raw (said l ν γ ws) ∷ []) ∵
-      suffices ! _ (ends-at 𝓤 H A stepped.ended stayed (stepped.clauses 𝓤 H A at-mem run) W ((κs, qs, tt, a, vss), tt) (machine (ws .0)) (ws .0) (tt, ws .1) (tt, (e, (tt, (tt, (tt, (tt, tt))))))) $
+  exits : (l ν : ℕ) (γ : GName) (ws : Lasts step-in.ended (lent-for ν) (passed l ν γ)) → length (ws .1 .0) ≡ length (a .1 .0 .now) → Made (ws .0) (ws .1 .0)
+      → ent 𝓤 (⋆ 𝓤 H A (‵ (Record .own (ws .0) (values (ws .0))) ∷ raw tokens ∷ ‵ (finally u8 (a .1 .0 .name) (ws .1 .0)) ∷ [])) (Post (machine (ws .0)))
+  exits l ν γ ws e made =
+      qed W (‵ (Record .own (ws .0) (values (ws .0))) ∷ raw tokens ∷ ‵ (finally u8 (a .1 .0 .name) (ws .1 .0)) ∷ []) ∵
+      suffices ! _ (ends-at 𝓤 H A stepped.ended stayed (stepped.clauses 𝓤 H A at-mem run) W ((κs, qs, tt, a, vss), tt) (machine (ws .0)) (ws .0) (tt, ws .1) (tt, (e, (tt, (tt, (tt, (tt, tt))))))) $ says ! made $
       nothing ! $ nothing ! $ fjoin ! $ nothing ! $ fjoin ! $ nothing ! $ fjoin ! $ nothing ! $ fjoin ! $
-      -- [nothing of the `&` slices; what the record owns; the tokens; the last share; what is ensured]
-      move ! (3 ∷ 0 ∷ []) $ fjoin ! $ nothing ! $ fjoin ! $ join ! $ move ! (1 ∷ 0 ∷ []) $ join ! $ done !
+      -- [nothing of the `&` slices; what the record owns; the tokens; the last share]
+      move ! (3 ∷ 0 ∷ []) $ fjoin ! $ nothing ! $ fjoin ! $ join ! $ move ! (1 ∷ 0 ∷ []) $ done !
 
   module _ (C : Calls 𝓤 H) (Λ : Loops 𝓤 H) (fm : FmC 𝓤 H (W .laws) C) (known : Triple 𝓤 (C #seat·step-in) (StepIn 𝓤 H A at-mem run)) where
     walk : Is Record h (values h) → Are (beside κs) (Ises (beside κs)) (a .1) (vss .1)
@@ -134,20 +134,20 @@ module _ {M : Type 1} (𝓤 : URA M) (H : Heap 𝓤) (A : Atoms 𝓤) (W : Given
         (and-then ! (load ! (from ! (stop !)) (look ! 6 refl)) (and-then ! (load ! (from ! (stop !)) (look ! 2 refl)) (and-then ! (load ! (from ! (stop !)) (look ! 17 refl)) (and-then ! (load ! (from ! (stop !)) (look ! 15 refl)) (and-then ! (load ! (from ! (stop !)) (look ! 13 refl)) (and-then ! (load ! (from ! (stop !)) (look ! 11 refl)) (no-more !))))))) (λ v.
         use1 W (later (some (λ (r : Unit {0}). ((‵ (flft (ν ∷ []) fullShare) ⊛ raw tokens) ⊛ ‵ (unit .own r (v ∷ []))) ⊛ raw (ensured 𝓤 H A step-in.ended (step-in.clauses 𝓤 H A at-mem run) (lent-for ν) (passed l₇ ν γ) tt r)))) (id⊢ 𝓤 _) $ await ! tt $ pick ! (λ r.
         -- what `step_in` ensures, at some last record and share
-        split ! $ move ! (1 ∷ []) $ use1 W (some (λ (ws : Lasts step-in.ended (lent-for ν) (passed l₇ ν γ)). ‵ (lasts step-in.ended (lent-for ν) (passed l₇ ν γ) ws) ⊛ raw (said l₇ ν γ ws))) (id⊢ 𝓤 _) $ pick ! (λ ws.
-        split ! $ fsplit ! $ move ! (1 ∷ []) $ fsplit ! $ fsplit ! $ move ! (1 ∷ []) $ feqL ! (λ e.
-        -- [the last share; …; the last record; what is ensured; the tokens and the result; the lender's part; _11; …; _10; …; _9; …; room for _8; …]
-        move ! (4 ∷ []) $ split ! $ split ! $ move ! (2 ∷ []) $ peeks ! unit (Is unit) (shows 𝓤 H A unit) r (v ∷ []) (λ is′.
-        land ! (from ! (stop !)) (init ! 14 refl (nothing-lawful 𝓤 H A W .typed r _ is′ .0)) $
+        split ! $ move ! (1 ∷ []) $ use1 W (some (λ (ws : Lasts step-in.ended (lent-for ν) (passed l₇ ν γ)). ‵ (lasts step-in.ended (lent-for ν) (passed l₇ ν γ) ws) ⊛ raw (fact 𝓤 (Made (ws .0) (ws .1 .0))))) (id⊢ 𝓤 _) $ pick ! (λ ws.
+        split ! $ move ! (1 ∷ []) $ heard ! (Made (ws .0) (ws .1 .0)) (λ made. fsplit ! $ move ! (1 ∷ []) $ fsplit ! $ fsplit ! $ move ! (1 ∷ []) $ feqL ! (λ e.
+        -- [the last share; …; the last record; the tokens and the result; the lender's part; _11; …; _10; …; _9; …; room for _8; …]
+        move ! (3 ∷ []) $ split ! $ split ! $ move ! (2 ∷ []) $ peeks ! unit (Is unit) (shows 𝓤 H A unit) r (v ∷ []) (λ is′.
+        land ! (from ! (stop !)) (init ! 13 refl (nothing-lawful 𝓤 H A W .typed r _ is′ .0)) $
         -- ν is ended, and the record comes back
-        move ! (1 ∷ []) $ lft-end ! tt $ move ! (0 ∷ 7 ∷ 5 ∷ []) $ use3 W (later (‵ (mem Record .lies (ws .0) l₇ 0))) (ref-back 𝓤 H A W Record (ν ∷ []) γ (ws .0) l₇ 0) $ await ! tt $
+        move ! (1 ∷ []) $ lft-end ! tt $ move ! (0 ∷ 6 ∷ 5 ∷ []) $ use3 W (later (‵ (mem Record .lies (ws .0) l₇ 0))) (ref-back 𝓤 H A W Record (ν ∷ []) γ (ws .0) l₇ 0) $ await ! tt $
         use1 W (‵ (fat fullShare T′.mir l₇ 0 (machine (ws .0))) ⊛ ‵ (Record .own (ws .0) (values (ws .0)))) (lies-out 𝓤 H A W (ws .0) l₇ 0) $ split ! $ move ! (1 ∷ []) $ peeks ! Record (Is Record) (shows 𝓤 H A Record) (ws .0) (values (ws .0)) (λ is″.
-        -- [what the new record owns; _7; the result; the tokens; the last share; …; what is ensured; _11; …; _10; …; _9; …; _8; …; what frees _7; _6; …; room for _0; …]
-        assigns ! (of-opd ! (load ! (from ! (stop !)) (look ! 1 refl))) (from ! (stop !)) (init ! 28 refl (typed 𝓤 H A W (ws .0) (machine (ws .0)) is″)) $
-        returns ! (look ! 28 refl) $ forget ! 1 refl $ forget ! 7 refl $ forget ! 9 refl $ forget ! 11 refl $ forget ! 13 refl $ forget ! 16 refl $ forget ! 18 refl $ forget ! 20 refl $ forget ! 22 refl $ forget ! 24 refl $ forget ! 26 refl $ forget ! 28 refl $
-        move ! (28 ∷ 29 ∷ []) $ free1 ! $ move ! (26 ∷ 27 ∷ []) $ free1 ! $ move ! (24 ∷ 25 ∷ []) $ free1 ! $ move ! (22 ∷ 23 ∷ []) $ free1 ! $ move ! (20 ∷ 21 ∷ []) $ free1 ! $ move ! (18 ∷ 19 ∷ []) $ free1 ! $ move ! (16 ∷ 17 ∷ []) $ free1 ! $
-        move ! (1 ∷ 15 ∷ []) $ free1 ! $ move ! (12 ∷ 13 ∷ []) $ free1 ! $ move ! (10 ∷ 11 ∷ []) $ free1 ! $ move ! (8 ∷ 9 ∷ []) $ free1 ! $ move ! (6 ∷ 7 ∷ []) $ free1 ! $ free0 ! $
-        keep ! (0 ∷ 2 ∷ 3 ∷ 5 ∷ []) $ by ! (exits l₇ ν γ ws e)))))))))))))))))))))
+        -- [what the new record owns; _7; the result; the tokens; the last share; …; _11; …; _10; …; _9; …; _8; …; what frees _7; _6; …; room for _0; …]
+        assigns ! (of-opd ! (load ! (from ! (stop !)) (look ! 1 refl))) (from ! (stop !)) (init ! 27 refl (typed 𝓤 H A W (ws .0) (machine (ws .0)) is″)) $
+        returns ! (look ! 27 refl) $ forget ! 1 refl $ forget ! 6 refl $ forget ! 8 refl $ forget ! 10 refl $ forget ! 12 refl $ forget ! 15 refl $ forget ! 17 refl $ forget ! 19 refl $ forget ! 21 refl $ forget ! 23 refl $ forget ! 25 refl $ forget ! 27 refl $
+        move ! (27 ∷ 28 ∷ []) $ free1 ! $ move ! (25 ∷ 26 ∷ []) $ free1 ! $ move ! (23 ∷ 24 ∷ []) $ free1 ! $ move ! (21 ∷ 22 ∷ []) $ free1 ! $ move ! (19 ∷ 20 ∷ []) $ free1 ! $ move ! (17 ∷ 18 ∷ []) $ free1 ! $ move ! (15 ∷ 16 ∷ []) $ free1 ! $
+        move ! (1 ∷ 14 ∷ []) $ free1 ! $ move ! (11 ∷ 12 ∷ []) $ free1 ! $ move ! (9 ∷ 10 ∷ []) $ free1 ! $ move ! (7 ∷ 8 ∷ []) $ free1 ! $ move ! (5 ∷ 6 ∷ []) $ free1 ! $ free0 ! $
+        keep ! (0 ∷ 2 ∷ 3 ∷ []) $ by ! (exits l₇ ν γ ws e made))))))))))))))))))))))
 
 module _ {M : Type 1} (𝓤 : URA M) (H : Heap 𝓤) (A : Atoms 𝓤) (W : Given 𝓤 H A) (mem : Memory → SProp 𝓤) (run : Routine → Fun 𝓤) where
   stepped-walks : (C : Calls 𝓤 H) (Λ : Loops 𝓤 H) → FmC 𝓤 H (W .laws) C → Triple 𝓤 (C #seat·step-in) (StepIn 𝓤 H A mem run) → Walks 𝓤 H A stepped.ended stayed (WpFn 𝓤 H C Λ code.function) (stepped.clauses 𝓤 H A mem run)
