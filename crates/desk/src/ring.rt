@@ -61,6 +61,7 @@ fn make_turns(desk: Desk, board: &mut [u8], sizes: &[u8], rules: &[u16], w: u16)
         };
         let from = c * 4096;
         let to = from + 4096;
+        let after = (c + 1) % 8;
         let seat = stepped(
             seats[c],
             &mut board[from..to],
@@ -71,7 +72,7 @@ fn make_turns(desk: Desk, board: &mut [u8], sizes: &[u8], rules: &[u16], w: u16)
         );
         working[c] = is_at_work(seat);
         seats[c] = seat;
-        next = ((c + 1) % 8) as u8;
+        next = after as u8;
         made += 1;
     }
     let found = first_at_work(&working, next as usize);

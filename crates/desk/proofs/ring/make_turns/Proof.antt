@@ -110,6 +110,9 @@ mul-from c = let l = seat-below c in search needs
 add-to : tie.Need-add-to Inv-loop μ-loop
 add-to c = let l = seat-below c in search needs
 
+add-after : tie.Need-add-after Inv-loop μ-loop
+add-after c = let l = seat-below c in search needs
+
 mul-stepped : tie.Need-mul-stepped Inv-loop μ-loop
 mul-stepped c = let l = seat-below c in search needs
 
@@ -161,9 +164,6 @@ mul-seats c = let l = seat-below (turn-of c) in search needs
 
 array-set-from-seats : tie.Need-array-set-from-seats Inv-loop μ-loop
 array-set-from-seats c = let l = seat-below (turn-of c) in search needs
-
-add-next : tie.Need-add-next Inv-loop μ-loop
-add-next c = let l = seat-below (turn-of c) in search needs
 
 cast-next : tie.Need-cast-next Inv-loop μ-loop
 cast-next c = search needs
@@ -239,6 +239,7 @@ make-turns-spec =
     enum-told
     mul-from
     add-to
+    add-after
     mul-stepped
     array-copy-out-stepped
     sub-stepped
@@ -251,7 +252,6 @@ make-turns-spec =
     array-write-working
     mul-seats
     array-set-from-seats
-    add-next
     cast-next
     add-made
     loop-less
