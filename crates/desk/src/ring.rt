@@ -60,11 +60,10 @@ fn make_turns(desk: Desk, board: &mut [u8], sizes: &[u8], rules: &[u16], w: u16)
             break;
         };
         let from = c * 4096;
-        let to = from + 4096;
         let after = (c + 1) % 8;
         let seat = stepped(
             seats[c],
-            &mut board[from..to],
+            &mut board[from..from + 4096],
             sizes,
             rules,
             &places,

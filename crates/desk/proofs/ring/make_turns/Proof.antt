@@ -107,9 +107,6 @@ enum-told c = search needs
 mul-from : tie.Need-mul-from Inv-loop μ-loop
 mul-from c = let l = seat-below c in search needs
 
-add-to : tie.Need-add-to Inv-loop μ-loop
-add-to c = let l = seat-below c in search needs
-
 add-after : tie.Need-add-after Inv-loop μ-loop
 add-after c = let l = seat-below c in search needs
 
@@ -118,6 +115,9 @@ mul-stepped c = let l = seat-below c in search needs
 
 array-copy-out-stepped : tie.Need-array-copy-out-stepped Inv-loop μ-loop
 array-copy-out-stepped c = let l = seat-below c in search needs
+
+add-stepped : tie.Need-add-stepped Inv-loop μ-loop
+add-stepped c = let l = seat-below (c .before) in search needs
 
 sub-stepped : tie.Need-sub-stepped Inv-loop μ-loop
 sub-stepped c = search needs
@@ -238,10 +238,10 @@ make-turns-spec =
     enum-known-c
     enum-told
     mul-from
-    add-to
     add-after
     mul-stepped
     array-copy-out-stepped
+    add-stepped
     sub-stepped
     part-stepped-start
     part-stepped-end
