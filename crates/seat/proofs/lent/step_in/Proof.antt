@@ -14,7 +14,7 @@ use base.Fml.{GName, flft, fobs, fbor}
 use prog.Memory.{Memory}
 use prog.Routine.{Routine}
 use prog.Wp.{Heap, Calls, Loops, WpFn, Tables}
-use ghost.Atoms.{Atoms, sem}
+use ghost.Atoms.{Atoms}
 use contract.Lifetimes.{Lfts, Shares}
 use contract.Monad.{Fun, fact}
 use contract.Running.{givenOf, tables, tablesOf}
