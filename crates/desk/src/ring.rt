@@ -10,7 +10,10 @@ ghost use mathlib.Core.List.{map};
 ghost use Prim.Native.Nat.{_<_};
 ghost use lib.ListN.{length};
 ghost use Rattle.catalogue.specs.Fault.{faultOf};
+ghost use Rattle.catalogue.specs.Starts.{AllStarts};
 ghost use Rattle.seat.specs.declared.Seat.{Seat};
+ghost use Rattle.seat.specs.Fit.{seatFits};
+ghost use Rattle.seat.specs.Step.{step};
 ghost use Rattle.desk.specs.Call.{turns};
 ghost use Rattle.desk.specs.Answers.{TurnsTo, foundOf, trueFrom};
 ghost use Rattle.desk.specs.Fit.{deskFits};
@@ -57,10 +60,10 @@ fn make_turns(desk: Desk, board: &mut [u8], sizes: &[u8], rules: &[u16], w: u16)
             break;
         };
         let from = c * 4096;
-        let to = from + 4096;
-        let seat = seat::step(
+        let after = (c + 1) % 8;
+        let seat = stepped(
             seats[c],
-            &mut board[from..to],
+            &mut board[from..from + 4096],
             sizes,
             rules,
             &places,
@@ -68,7 +71,7 @@ fn make_turns(desk: Desk, board: &mut [u8], sizes: &[u8], rules: &[u16], w: u16)
         );
         working[c] = is_at_work(seat);
         seats[c] = seat;
-        next = ((c + 1) % 8) as u8;
+        next = after as u8;
         made += 1;
     }
     let found = first_at_work(&working, next as usize);
@@ -78,6 +81,25 @@ fn make_turns(desk: Desk, board: &mut [u8], sizes: &[u8], rules: &[u16], w: u16)
         working: is_someone(found),
         desk: Desk { seats, next },
     }
+}
+
+// One step for the seat that is served: its record is lent for the step, and handed back as the step left it.
+fn stepped(
+    mut seat: Seat,
+    share: &mut [u8],
+    sizes: &[u8],
+    rules: &[u16],
+    places: &[u16],
+    counts: &[u8],
+) -> Seat
+    requires { ⌜ faultOf (record { sizes = now sizes; list = now rules }) ≡ 0 ⌝ }
+    requires { ⌜ seatFits (record { sizes = now sizes; list = now rules }) seat ≡ true ⌝ }
+    requires { ⌜ length (now share) ≡ 4096 ⌝ }
+    requires { ⌜ AllStarts (now rules) (now places) (now counts) ⌝ }
+    ensures { λ r. ⌜ record { seat = r; share = now (share .exit) } ≡ step (record { sizes = now (sizes .entry); list = now (rules .entry) }) (record { seat = seat; share = now (share .entry) }) ⌝ }
+{
+    seat::step_in(&mut seat, share, sizes, rules, places, counts);
+    seat
 }
 
 // Which of the eight seats are at work.

@@ -2,6 +2,7 @@
 mod candidates;
 mod fit;
 mod job;
+mod lent;
 mod search;
 mod share;
 
@@ -11,7 +12,7 @@ pub use job::close;
 pub use job::closed;
 pub use job::enter;
 pub use job::relax;
-pub use search::step;
+pub use lent::step_in;
 pub use share::empty;
 
 // Where a search stands: it looks for a build with `option` at `feature`, has placed options before `depth`, and

@@ -107,35 +107,38 @@ enum-told c = search needs
 mul-from : tie.Need-mul-from Inv-loop μ-loop
 mul-from c = let l = seat-below c in search needs
 
-add-to : tie.Need-add-to Inv-loop μ-loop
-add-to c = let l = seat-below c in search needs
+add-after : tie.Need-add-after Inv-loop μ-loop
+add-after c = let l = seat-below c in search needs
 
-mul-step : tie.Need-mul-step Inv-loop μ-loop
-mul-step c = let l = seat-below c in search needs
+mul-stepped : tie.Need-mul-stepped Inv-loop μ-loop
+mul-stepped c = let l = seat-below c in search needs
 
-array-copy-out-step : tie.Need-array-copy-out-step Inv-loop μ-loop
-array-copy-out-step c = let l = seat-below c in search needs
+array-copy-out-stepped : tie.Need-array-copy-out-stepped Inv-loop μ-loop
+array-copy-out-stepped c = let l = seat-below c in search needs
 
-sub-step : tie.Need-sub-step Inv-loop μ-loop
-sub-step c = search needs
+add-stepped : tie.Need-add-stepped Inv-loop μ-loop
+add-stepped c = let l = seat-below (c .before) in search needs
 
-part-step-start : tie.Need-part-step-start Inv-loop μ-loop
-part-step-start c = search needs
+sub-stepped : tie.Need-sub-stepped Inv-loop μ-loop
+sub-stepped c = search needs
 
-part-step-end : tie.Need-part-step-end Inv-loop μ-loop
-part-step-end c =
+part-stepped-start : tie.Need-part-stepped-start Inv-loop μ-loop
+part-stepped-start c = search needs
+
+part-stepped-end : tie.Need-part-stepped-end Inv-loop μ-loop
+part-stepped-end c =
     let l = seat-below (c .before) in
     let whole = c .before .before .before .before .before .before .before .loop .inv .sound .board-length in
     search needs
 
-slice-aggregate-step : tie.Need-slice-aggregate-step Inv-loop μ-loop
-slice-aggregate-step c = search needs
+slice-aggregate-stepped : tie.Need-slice-aggregate-stepped Inv-loop μ-loop
+slice-aggregate-stepped c = search needs
 
-slice-aggregate-step-2 : tie.Need-slice-aggregate-step-2 Inv-loop μ-loop
-slice-aggregate-step-2 c = search needs
+slice-aggregate-stepped-2 : tie.Need-slice-aggregate-stepped-2 Inv-loop μ-loop
+slice-aggregate-stepped-2 c = search needs
 
-step-requires : tie.Need-step-requires Inv-loop μ-loop
-step-requires c κs =
+stepped-requires : tie.Need-stepped-requires Inv-loop μ-loop
+stepped-requires c κs =
     let here = c .before .before .before .before in
     let head = head-of here in
     let start = start-of here in
@@ -162,9 +165,6 @@ mul-seats c = let l = seat-below (turn-of c) in search needs
 array-set-from-seats : tie.Need-array-set-from-seats Inv-loop μ-loop
 array-set-from-seats c = let l = seat-below (turn-of c) in search needs
 
-add-next : tie.Need-add-next Inv-loop μ-loop
-add-next c = let l = seat-below (turn-of c) in search needs
-
 cast-next : tie.Need-cast-next Inv-loop μ-loop
 cast-next c = search needs
 
@@ -182,7 +182,7 @@ loop-again : tie.Need-loop-again Inv-loop μ-loop
 unfolding withClinic
 loop-again c =
     let here = turn-of c in
-    let stepped = c .before .before .before .step in
+    let stepped = c .before .before .before .stepped in
     let head = head-of here in
     let board = head .loop .board in
     let seat : ℕ = seat-of here in
@@ -238,20 +238,20 @@ make-turns-spec =
     enum-known-c
     enum-told
     mul-from
-    add-to
-    mul-step
-    array-copy-out-step
-    sub-step
-    part-step-start
-    part-step-end
-    slice-aggregate-step
-    slice-aggregate-step-2
-    step-requires
+    add-after
+    mul-stepped
+    array-copy-out-stepped
+    add-stepped
+    sub-stepped
+    part-stepped-start
+    part-stepped-end
+    slice-aggregate-stepped
+    slice-aggregate-stepped-2
+    stepped-requires
     is-at-work-requires
     array-write-working
     mul-seats
     array-set-from-seats
-    add-next
     cast-next
     add-made
     loop-less
