@@ -42,7 +42,8 @@ pub fn call(
     }
 }
 
-// The calls that answer nothing but the desk. A refused open hands back a closed desk, which is not kept.
+// The calls that answer nothing but the desk. A refused open hands back a closed desk, which is not kept; any other call
+// the desk as it came.
 fn change(
     desk: Desk,
     board: &mut [u8],
@@ -53,12 +54,15 @@ fn change(
 ) -> Desk {
     let changed = changed(desk, board, sizes, rules, command, asked);
     let refusal = changed.number;
-    if refusal != 0 {
-        refused(refusal, lengths(board, sizes, rules), asked);
-        text(b"\n");
+    if refusal == 0 {
+        accepted(command, asked);
+        return changed.desk;
+    }
+    refused(refusal, lengths(board, sizes, rules), asked);
+    text(b"\n");
+    if command == OPEN {
         return desk;
     }
-    accepted(command, asked);
     changed.desk
 }
 
@@ -105,16 +109,31 @@ fn turns(desk: Desk, board: &mut [u8], sizes: &[u8], rules: &[u16], asked: Asked
     let refusal = turned.number;
     if refusal != 0 {
         refused(refusal, lengths(board, sizes, rules), asked);
-        text(b"\n");
-        return desk;
     }
-    number(turned.made as u64);
-    if turned.working {
-        text(b" turns made, a seat is at work\n");
-    } else {
-        text(b" turns made, no seat is at work\n");
+    if refusal == 0 {
+        turns_made(turned.made, turned.working);
+    } else if turned.made != 0 {
+        beside(turned.made, turned.working);
+    } else if turned.working {
+        beside(turned.made, turned.working);
     }
+    text(b"\n");
     turned.desk
+}
+
+// What no refusal has beside it; a refusal that had would be seen.
+fn beside(made: u16, working: bool) {
+    text(b"; ");
+    turns_made(made, working);
+}
+
+fn turns_made(made: u16, working: bool) {
+    number(made as u64);
+    if working {
+        text(b" turns made, a seat is at work");
+    } else {
+        text(b" turns made, no seat is at work");
+    }
 }
 
 fn turned(desk: Desk, board: &mut [u8], sizes: &[u8], rules: &[u16], w: u32) -> Turned {
@@ -124,12 +143,22 @@ fn turned(desk: Desk, board: &mut [u8], sizes: &[u8], rules: &[u16], w: u32) -> 
 fn options(desk: Desk, board: &[u8], sizes: &[u8], rules: &[u16], asked: Asked) {
     let left = left(desk, board, sizes, rules, asked.seat, asked.feature);
     let refusal = left.number;
-    if refusal == 0 {
-        options_left(left, asked.feature);
-    } else {
+    if refusal != 0 {
         refused(refusal, lengths(board, sizes, rules), asked);
     }
+    if refusal == 0 {
+        options_left(left, asked.feature);
+    } else if left.mask != 0 {
+        left_beside(left, asked.feature);
+    } else if left.count != 0 {
+        left_beside(left, asked.feature);
+    }
     text(b"\n");
+}
+
+fn left_beside(left: Left, feature: u32) {
+    text(b"; ");
+    options_left(left, feature);
 }
 
 pub fn left(desk: Desk, board: &[u8], sizes: &[u8], rules: &[u16], c: u32, i: u32) -> Left {
