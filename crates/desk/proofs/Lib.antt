@@ -4,6 +4,7 @@
 --   Replayed: a clinic's answers and its record and share follow from its own calls and steps
 --   RingAhead: a seat at work is at most seven seats ahead, and each turn for another brings it nearer
 --   TurnsAdded: turns(u + v) is turns(u), then turns(v)
+--   TurnsAnswered: the turns made are the steps given, and all that were asked for unless no seat is at work
 --   ChecksPassed: in a sound room a call's refusal speaks of the named seat alone
 --   Settled: of each call any two outcomes that its contract allows are equal
 pub mod WithClinic
@@ -31,3 +32,4 @@ pub mod AnsweredAlike
 pub mod Replayed
 pub mod RingAhead
 pub mod CallKinds
+pub mod TurnsAnswered

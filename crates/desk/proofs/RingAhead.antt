@@ -1,9 +1,9 @@
 -- The ring: a turn serves the first seat at work from next upward, so a seat at work is served now, or a seat before it is,
 -- and then next has come nearer to it. After its own turn seven seats come before it again.
 use Prim.Native.Nat.{ℕ, zero, suc, _+_, _-_, _%_, _≤_, _<_}
-use mathlib.Core.Path.{_≡_, refl, sym, ap}
+use mathlib.Core.Path.{_≡_, refl, sym, ap, _∙_}
 use mathlib.Core.Bool.{Bool, true, false, cond}
-use mathlib.Core.Option.{Option, some}
+use mathlib.Core.Option.{Option, none, some}
 use native.Mathlib.Nat.{mod-lt}
 use native.Mathlib.Omega.{arith}
 use lib.Dec.{ltb, lit<}
@@ -74,3 +74,54 @@ module _ (desk : Desk) (c : ℕ) (below : c < 8) (work : isAtWork (seatAt desk c
 
   pub served-ahead : desk .next < 8 → Finds (served desk) (desk .next) c
   served-ahead l = finds-from 8 (desk .next) l (ahead-below (desk .next) c)
+
+-- c is the first at work, k seats on from one
+abbrev pub FirstFrom : Desk → ℕ → ℕ → ℕ → Type 0
+FirstFrom desk from c k =
+    (c ≡ (from + k) % 8) × (isAtWork (seatAt desk c .state) ≡ true)
+    × ((n : ℕ) → n < k → isAtWork (seatAt desk ((from + n) % 8) .state) ≡ false)
+
+module _ (desk : Desk) where
+  -- k seats on from the one after are k + 1 on from it
+  one-on : (from k : ℕ) → from < 8 → (seatAfter from + k) % 8 ≡ (from + suc k) % 8
+  one-on from k l =
+      after-cases (λ (next : ℕ). (next + k) % 8 ≡ (from + suc k) % 8) from l (λ (below : from < 7). omega arith)
+      (λ (e : from ≡ 7). omega arith)
+
+  first-from : (n from : ℕ) → from < 8 → (c : ℕ) → atWorkFrom n desk from ≡ some c → (k : ℕ) × (k < n) × FirstFrom desk from c k
+  unfolding atWorkFrom
+  first-from zero from l c e = let z : _≡_ {A = ℕ} 0 1 = cc in absurd (omega arith)
+  first-from (suc n) from l c e =
+      go (isAtWork (seatAt desk from .state)) refl e (first-from n (seatAfter from) (after-below from) c)
+    where
+      here : (from + 0) % 8 ≡ from
+      here = omega arith
+
+      go : (t : Bool) → isAtWork (seatAt desk from .state) ≡ t
+          → cond t (some from) (atWorkFrom n desk (seatAfter from)) ≡ some c
+          → (atWorkFrom n desk (seatAfter from) ≡ some c → (k : ℕ) × (k < n) × FirstFrom desk (seatAfter from) c k)
+          → (k : ℕ) × (k < suc n) × FirstFrom desk from c k
+      go true h found later =
+          let same : c ≡ from = cc in
+          (0, omega arith, (same ∙ sym here, rw same h, λ (m : ℕ) (less : m < 0). absurd (omega arith)))
+      go false h found later =
+          let first = later found in
+          (suc (first .0), omega (arith, first .1), (first .2 .0 ∙ one-on from (first .0) l, first .2 .1, idle (first .2 .2)))
+        where
+          idle : {k : ℕ} → ((m : ℕ) → m < k → isAtWork (seatAt desk ((seatAfter from + m) % 8) .state) ≡ false)
+              → (m : ℕ) → m < suc k → isAtWork (seatAt desk ((from + m) % 8) .state) ≡ false
+          idle before zero less = rw here h
+          idle before (suc m) less = rw (← one-on from m l) (before m (omega arith))
+
+  pub first-from-next : desk .next < 8 → (c : ℕ) → served desk ≡ some c → (k : ℕ) × (k < 8) × FirstFrom desk (desk .next) c k
+  first-from-next below c found = first-from 8 (desk .next) below c found
+
+  pub nobody-at-work : desk .next < 8 → served desk ≡ none → (c : ℕ) → c < 8 → isAtWork (seatAt desk c .state) ≡ false
+  nobody-at-work below nobody c l = go (isAtWork (seatAt desk c .state)) refl
+    where
+      go : (t : Bool) → isAtWork (seatAt desk c .state) ≡ t → t ≡ false
+      go true work =
+          let found = served-ahead desk c l work below .1 in
+          let z : _≡_ {A = ℕ} 0 1 = cc in
+          absurd (omega arith)
+      go false idle = refl

@@ -4,8 +4,6 @@ use Prim.Native.Nat.{ℕ, zero, suc}
 use mathlib.Core.Path.{_≡_, refl, sym, ap, _∙_}
 use mathlib.Core.Bool.{Bool, true, false, cond}
 use mathlib.Core.Option.{Option, none, some}
-use mathlib.Core.List.{List, [], _∷_}
-use native.Mathlib.Omega.{arith}
 use lib.Dec.{eqb}
 use borrow.Author.Tests.{eqb-true, eqb-false}
 use Rattle.catalogue.specs.Catalogue.{Catalogue}
@@ -13,39 +11,21 @@ use Rattle.catalogue.specs.Fault.{faultOf}
 use Rattle.seat.specs.Step.{steps}
 use Rattle.seat.proofs.StepsAdded.{steps-added}
 use Rattle.desk.specs.Room.{Room, clinicAt}
-use Rattle.desk.specs.Call.{Call, enter, leave, choose, relax, options, example, turns, numbersOf, isOf}
-use Rattle.desk.specs.Turn.{served, is, turn, afterTurns, turnsMade, stepsGiven}
-use Rattle.desk.specs.Refusal.{refusal}
-use Rattle.desk.specs.Perform.{done, unless, perform}
-use Rattle.desk.specs.Run.{given}
+use Rattle.desk.specs.Call.{Call, turns, isOf}
+use Rattle.desk.specs.Turn.{served, is, turn, afterTurns, stepsGiven}
+use Rattle.desk.specs.Perform.{perform}
+use Rattle.desk.specs.Run.{given, taken}
 use Rattle.desk.proofs.Sound.{Sound, turn-sound}
 use Rattle.desk.proofs.ChecksPassed.{turns-accepted}
-use Rattle.desk.proofs.Performed.{perform-accepted}
+use Rattle.desk.proofs.Performed.{perform-number}
 use Rattle.desk.proofs.OthersStay.{call-stays, turn-steps, turn-stays}
-use Rattle.desk.proofs.TurnsMade.{idle-turn, made-suffice}
+use Rattle.desk.proofs.TurnsAdded.{turns-performed}
+use Rattle.desk.proofs.TurnsMade.{idle-turn}
+use Rattle.desk.proofs.CallKinds.{Kind, of-turns, of-a-seat, kind}
 
--- a call that names a seat makes no turns
-module _ (catalogue : Catalogue) (room : Room) where
-  none-done : (call : Call) → (numbersOf call ≡ [] → ⊥) → done catalogue call room .answer .made ≡ 0
-  unfolding done
-  none-done (enter c) named = refl
-  none-done (leave c) named = refl
-  none-done (choose c i a) named = refl
-  none-done (relax c i) named = refl
-  none-done (options c i) named = refl
-  none-done (example c i a) named = refl
-  none-done (turns w) named = absurd (named refl)
-
-  none-made : (call : Call) → (numbersOf call ≡ [] → ⊥) → perform catalogue call room .answer .made ≡ 0
-  unfolding perform
-  none-made call named = go (refusal catalogue call room)
-    where
-      go : (r : ℕ) → unless r room (done catalogue call room) .answer .made ≡ 0
-      go zero = none-done call named
-      go (suc r) = refl
-
-names-a-seat : (n : ℕ) (numbers : List ℕ) → n ∷ numbers ≡ [] → ⊥
-names-a-seat n numbers e = let z : _≡_ {A = ℕ} 0 1 = cc in omega arith
+no-turn-asked : (taken : Bool) → _≡_ {A = ℕ} (cond taken 0 0) 0
+no-turn-asked true = refl
+no-turn-asked false = refl
 
 module _ (catalogue : Catalogue) (fault : faultOf catalogue ≡ 0) (c : ℕ) where
   one-turn : (room : Room) → Sound catalogue room
@@ -78,22 +58,15 @@ module _ (catalogue : Catalogue) (fault : faultOf catalogue ≡ 0) (c : ℕ) whe
     StepsBy call =
         clinicAt (perform catalogue call room .room) c ≡ steps catalogue (given catalogue c call room) (clinicAt room c)
 
-    named-steps : (call : Call) → (numbersOf call ≡ [] → ⊥) → isOf c call ≡ false → StepsBy call
+    by-kind : {call : Call} → Kind call → isOf c call ≡ false → StepsBy call
     unfolding stepsGiven steps
-    named-steps call named other =
-        rw (none-made catalogue room call named)
+    by-kind (of-turns w) other =
+        let taken = turns-accepted catalogue fault room sound w in
+        rw (perform-number catalogue (turns w) room, turns-performed catalogue room w taken, taken) (turns-step w room sound)
+    by-kind {call} (of-a-seat named asks-none) other =
+        rw (asks-none, no-turn-asked (taken catalogue call room))
         (call-stays catalogue room (sound .eight) (sound .board-length) c call named other .0)
 
     -- what a call that isn't its own does to a clinic: it gives it steps, or none
     pub others-step : (call : Call) → isOf c call ≡ false → StepsBy call
-    unfolding done
-    others-step (enter d) other = named-steps (enter d) (names-a-seat d []) other
-    others-step (leave d) other = named-steps (leave d) (names-a-seat d []) other
-    others-step (choose d i a) other = named-steps (choose d i a) (names-a-seat d (i ∷ a ∷ [])) other
-    others-step (relax d i) other = named-steps (relax d i) (names-a-seat d (i ∷ [])) other
-    others-step (options d i) other = named-steps (options d i) (names-a-seat d (i ∷ [])) other
-    others-step (example d i a) other = named-steps (example d i a) (names-a-seat d (i ∷ a ∷ [])) other
-    others-step (turns w) other =
-        let accepted = turns-accepted catalogue fault room sound w in
-        rw (perform-accepted catalogue (turns w) room accepted, ← made-suffice catalogue w room)
-        (turns-step (turnsMade catalogue w room) room sound)
+    others-step call = by-kind (kind call)

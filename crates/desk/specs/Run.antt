@@ -2,11 +2,12 @@
 -- catalogue. A moment of a run is the end of a shorter one: turns(w) stops after u turns where turns(u) stops.
 use Prim.Native.Nat.{ℕ, _+_}
 use mathlib.Core.Bool.{Bool, false, cond, _&&_}
-use lib.Dec.{eqb}
 use mathlib.Core.List.{List, [], _∷_}
+use lib.ListN.{set}
+use lib.Dec.{eqb}
 use Rattle.catalogue.specs.Catalogue.{Catalogue}
-use Rattle.seat.specs.Clinic.{Clinic}
-use Rattle.desk.specs.Room.{Room, clinicAt}
+use Rattle.seat.specs.Clinic.{nothing16}
+use Rattle.desk.specs.Room.{Room}
 use Rattle.desk.specs.Call.{Call, enter, leave, choose, relax, options, example, turns, Answer, isOf}
 use Rattle.desk.specs.Turn.{stepsGiven}
 use Rattle.desk.specs.Perform.{perform}
@@ -29,9 +30,14 @@ unfoldable pub allTurnsAsked : List Call → ℕ
 allTurnsAsked [] = 0
 allTurnsAsked (call ∷ calls) = turnsAsked call + allTurnsAsked calls
 
--- the steps that a call gives seat c: only turns that are not refused do
+-- whether a call is accepted
+abbrev pub taken : Catalogue → Call → Room → Bool
+taken catalogue call room = eqb (perform catalogue call room .answer .number) 0
+
+-- the steps that a call gives seat c: only turns that are not refused do. They are counted by the turns asked for, not by
+-- the answer.
 abbrev pub given : Catalogue → ℕ → Call → Room → ℕ
-given catalogue c call room = stepsGiven catalogue c (perform catalogue call room .answer .made) room
+given catalogue c call room = stepsGiven catalogue c (cond (taken catalogue call room) (turnsAsked call) 0) room
 
 -- Clinic c's side of a run: each of its calls, the answer to it and the steps that c was given from then until its
 -- next call or the end.
@@ -77,22 +83,36 @@ leavesFor c (options d i) = false
 leavesFor c (example d i a) = false
 leavesFor c (turns w) = false
 
--- What a seat has come through: it is closed; or its last posting left it as `start`, and it was given so many steps
--- since.
+-- the choices that a clinic's own accepted call leaves in force: enter begins with none, choose sets one, relax drops one
+abbrev pub choicesBy : Call → List ℕ → List ℕ
+choicesBy (enter d) before = nothing16
+choicesBy (leave d) before = nothing16
+choicesBy (choose d i a) before = set before i a
+choicesBy (relax d i) before = set before i 255
+choicesBy (options d i) before = before
+choicesBy (example d i a) before = before
+choicesBy (turns w) before = before
+
+-- What a seat has come through, traced from the calls alone: it is closed; or its last job was posted under some choices,
+-- and it was given so many steps since.
 pub data Since : Type 0 where
   closed : Since
-  job : (start : Clinic) (given : ℕ) → Since
+  job : (choices : List ℕ) (given : ℕ) → Since
+
+-- the choices in force; a closed seat has none
+abbrev pub inForce : Since → List ℕ
+inForce closed = nothing16
+inForce (job choices given) = choices
 
 abbrev pub moreSteps : ℕ → Since → Since
 moreSteps n closed = closed
-moreSteps n (job start given) = job start (given + n)
+moreSteps n (job choices given) = job choices (given + n)
 
 -- an accepted call that posts begins anew, an accepted leave ends, any other call adds the steps that it gives
 abbrev pub sinceCall : Catalogue → ℕ → Call → Room → Since → Since
 sinceCall catalogue c call room before =
-    cond (postsFor c call && eqb (perform catalogue call room .answer .number) 0)
-    (job (clinicAt (perform catalogue call room .room) c) 0)
-    (cond (leavesFor c call && eqb (perform catalogue call room .answer .number) 0) closed
+    cond (postsFor c call && taken catalogue call room) (job (choicesBy call (inForce before)) 0)
+    (cond (leavesFor c call && taken catalogue call room) closed
     (moreSteps (given catalogue c call room) before))
 
 unfoldable pub since : Catalogue → ℕ → List Call → Room → Since → Since

@@ -25,8 +25,9 @@ use Rattle.seat.proofs.ReadyJob as ready-job
 use Rattle.desk.specs.Room.{clinicAt}
 use Rattle.promises.specs.Moment.{moment}
 use Rattle.promises.specs.InARun.{EveryRun}
-use Rattle.promises.proofs.SoundMoments.{opened-faultless}
+use Rattle.promises.proofs.SoundMoments.{opened-faultless, sound-moment}
 use Rattle.promises.proofs.Lasting.{Lasting, lasts}
+use Rattle.promises.proofs.OptionsLeft.{mask-answered}
 use Rattle.promises.proofs.KeptChoices.{Kept, no-choice, by-build, under-others, kept-fit}
 use Rattle.promises.proofs.Reached.{
   Reached,
@@ -112,9 +113,12 @@ every-run catalogue board opened calls c seat-below =
     let clinic : Clinic = clinicAt (moment catalogue board calls) c in
     let fault : faultOf catalogue ≡ 0 = opened-faultless catalogue board opened in
     let at-end = ended-at catalogue board opened calls c seat-below in
+    let shown = mask-answered catalogue fault (moment catalogue board calls) (sound-moment catalogue board opened calls) c seat-below in
     record {
-      choice-alone = λ ready i x feature. chosen-alone catalogue fault clinic (at-end ready) i feature x;
-      some-left = λ build b ready i feature. some-shown catalogue fault clinic (at-end ready) i feature build b;
+      choice-alone = λ ready i x feature.
+          rw (shown ready i feature) (chosen-alone catalogue fault clinic (at-end ready) i feature x);
+      some-left = λ build b ready i feature.
+          rw (shown ready i feature) (some-shown catalogue fault clinic (at-end ready) i feature build b);
       none-left = λ no-build.
           always-blank catalogue fault no-build clinic (reached-at catalogue board opened calls c seat-below)
           (lasts catalogue board opened BlankOrShows (blank-or-shows-lasts catalogue fault) calls c seat-below);

@@ -1,5 +1,5 @@
--- In a run number 20 is never given, for every moment is sound and the rows after it have other numbers; and a ready seat
--- stands at the end of its job.
+-- In a run number 20 is never given, for every moment is sound and the rows after it have other numbers; after a refused
+-- opening no seat opens; and a ready seat stands at the end of its job.
 use Prim.Native.Nat.{ℕ, zero, suc}
 use mathlib.Core.Path.{_≡_, refl, sym, _∙_}
 use mathlib.Core.Bool.{Bool, true, false, not, _&&_}
@@ -24,7 +24,7 @@ use Rattle.desk.proofs.Performed.{perform-number}
 use Rattle.promises.specs.Moment.{moment, Opened, seatIn}
 use Rattle.promises.specs.LastJob.{LastJob}
 use Rattle.promises.proofs.SoundMoments.{opened-faultless, sound-moment}
-use Rattle.promises.proofs.RefusedOpening.{every-call-refused}
+use Rattle.promises.proofs.RefusedOpening.{every-call-refused, every-seat-closed}
 use Rattle.promises.proofs.Reached.{ended-at}
 
 abbrev Not20 : ℕ → Type 0
@@ -78,6 +78,7 @@ last-job = record {
     never-20 = λ opened. never-20 catalogue board opened calls call;
     refused-throughout = λ not-opened. every-call-refused catalogue board not-opened calls call;
   };
+  never-opens = every-seat-closed;
   ready-done = λ catalogue board opened calls c below ready.
       let end = ended-at catalogue board opened calls c below ready in
       let choices : List ℕ = seatIn (moment catalogue board calls) c .choices in

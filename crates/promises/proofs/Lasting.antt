@@ -46,7 +46,7 @@ pub record Lasting (catalogue : Catalogue) (P : Clinic → Type 0) : Type 0 wher
       → (i : ℕ) → i < length (catalogue .sizes)
       → P (posted (catalogue .sizes) (set (clinic .seat .choices) i 255))
 
-is-closed : (state : State) → isClosed state ≡ true → state ≡ Closed
+pub is-closed : (state : State) → isClosed state ≡ true → state ≡ Closed
 is-closed Closed h = refl
 is-closed Ready h = let z : _≡_ {A = ℕ} 0 1 = cc in absurd (omega arith)
 is-closed (AtWork p) h = let z : _≡_ {A = ℕ} 0 1 = cc in absurd (omega arith)

@@ -1,4 +1,4 @@
--- Refusals, OptionsLeft, Waiting, SearchState, TwoRuns, InARun, Frame: the statements of those names in specs/, proved.
+-- Refusals, OptionsLeft, Waiting, SearchState, TwoRuns, InARun, LastJob, Frame, Posting, TurnsAnswered: the statements of those names in specs/, proved.
 -- SoundMoments: every moment of a run is sound. RefusedOpening: after a refused opening no seat ever opens.
 -- OnTheTrolley: each statement says something of the trolley.
 pub mod Refusals
@@ -16,4 +16,6 @@ pub mod Reached
 pub mod OptionsLeft
 pub mod InARun
 pub mod LastJob
+pub mod Posting
+pub mod TurnsAnswered
 pub mod OnTheTrolley

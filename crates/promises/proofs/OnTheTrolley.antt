@@ -120,12 +120,13 @@ waiting demand =
 pub begun : List Call
 begun = enter 3 ∷ turns 5 ∷ []
 
-in-a-search : {clinic start : Clinic} {given : ℕ} → Stands trolley clinic (job start given) → clinic ≡ steps trolley given start
+in-a-search : {clinic : Clinic} {choices : List ℕ} {given : ℕ} → Stands trolley clinic (job choices given)
+    → clinic ≡ steps trolley given (posted (trolley .sizes) choices)
 in-a-search (searching K same takes few ready) = same
 
 search-state : SearchState → clinicAt (moment trolley board begun) 3 ≡ steps trolley 5 (posted (trolley .sizes) nothing16)
 unfolding board begun computing moment
-search-state demand = in-a-search {start = posted (trolley .sizes) nothing16} {given = 5} (demand trolley board opens begun 3 (lit< tt))
+search-state demand = in-a-search {choices = nothing16} {given = 5} (demand trolley board opens begun 3 (lit< tt))
 
 -- Seat 3 alone, and seat 3 beside seat 5: the same calls, five steps after them.
 pub beside : List Call
@@ -139,7 +140,7 @@ two-runs demand = demand trolley board board opens opens begun beside 3 (lit< tt
 pub chosen : List Call
 chosen = ready ++ choose 0 2 0 ∷ turns 40 ∷ []
 
-choice-alone : EveryRun → (a : ℕ) → (hasBit (getD (seatIn (moment trolley board chosen) 0 .masks) 2 0) a ≡ true) ↔ (a ≡ 0)
+choice-alone : EveryRun → (a : ℕ) → (hasBit (perform trolley (options 0 2) (moment trolley board chosen) .answer .mask) a ≡ true) ↔ (a ≡ 0)
 unfolding board ready chosen computing moment
 choice-alone demand = demand trolley board opens chosen 0 (lit< tt) .choice-alone refl 2 0 (lit< tt) refl (λ e. omega arith)
 
@@ -193,7 +194,7 @@ five-steps = search-state proved-search-state
 pub quiet-and-crowded : clinicAt (moment trolley board begun) 3 ≡ clinicAt (moment trolley board beside) 3
 quiet-and-crowded = two-runs proved-two-runs
 
-pub chosen-alone : (a : ℕ) → (hasBit (getD (seatIn (moment trolley board chosen) 0 .masks) 2 0) a ≡ true) ↔ (a ≡ 0)
+pub chosen-alone : (a : ℕ) → (hasBit (perform trolley (options 0 2) (moment trolley board chosen) .answer .mask) a ≡ true) ↔ (a ≡ 0)
 chosen-alone = choice-alone proved-every-run
 
 pub never-given-20 : (call : Call) → perform trolley call (moment trolley board chosen) .answer .number ≡ 20 → ⊥

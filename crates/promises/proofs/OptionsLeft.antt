@@ -59,6 +59,11 @@ module _
         checks-passed catalogue fault (options c i) room sound
         ∙ rw (le-ltb 7 c (omega arith), ready, lt-ltb i (length (catalogue .sizes)) feature) refl
 
+    -- what the options call answers is the mask of the seat
+    pub mask-answered : perform catalogue (options c i) room .answer .mask ≡ getD (seatIn room c .masks) i 0
+    unfolding done
+    mask-answered = ap (λ (o : Outcome). o .answer .mask) (perform-accepted catalogue (options c i) room options-accepted)
+
     module _ (a : ℕ) (option : a < sizeOf catalogue i) where
       -- accepted where the option is left, and refused by row 37 where it isn't
       example-number : (left : Bool) → isLeft (seatIn room c) i a ≡ left → refusal catalogue (example c i a) room ≡ when (not left) 37

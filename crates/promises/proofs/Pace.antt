@@ -14,7 +14,7 @@ use Rattle.catalogue.specs.Every.{Every}
 use Rattle.catalogue.specs.Catalogue.{Catalogue}
 use Rattle.catalogue.specs.Fault.{faultOf}
 use Rattle.seat.specs.Clinic.{Clinic}
-use Rattle.seat.specs.Step.{steps, ReadyAfter}
+use Rattle.seat.specs.Step.{steps, posted, ReadyAfter}
 use Rattle.desk.specs.Room.{Room, clinicAt}
 use Rattle.desk.specs.Call.{Call, isOf}
 use Rattle.desk.specs.Turn.{isAtWork, served, is, turn, afterTurns, seatAfter}
@@ -31,24 +31,24 @@ use Rattle.promises.specs.SearchState.{Stands}
 use Rattle.promises.proofs.Standing.{in-the-search, turn-stands}
 
 -- seat c, so many turns asked for after a job of K steps was posted for it
-pub record Waited (catalogue : Catalogue) (start : Clinic) (K c asked : ℕ) (room : Room) : Type 0 where
+pub record Waited (catalogue : Catalogue) (choices : List ℕ) (K c asked : ℕ) (room : Room) : Type 0 where
   pub given : ℕ
-  pub stands : Stands catalogue (clinicAt room c) (job start given)
+  pub stands : Stands catalogue (clinicAt room c) (job choices given)
   pub in-pace : given < K → asked + ahead (room .desk .next) c ≤ 8 * given + 7
 
 module _
     (catalogue : Catalogue)
     (fault : faultOf catalogue ≡ 0)
-    (start : Clinic)
+    (choices : List ℕ)
     (K : ℕ)
-    (takes : ReadyAfter catalogue start K)
+    (takes : ReadyAfter catalogue (posted (catalogue .sizes) choices) K)
     (c : ℕ)
     (below : c < 8)
   where
     abbrev pub WaitedFor : ℕ → Room → Type 0
-    WaitedFor asked room = Waited catalogue start K c asked room
+    WaitedFor asked room = Waited catalogue choices K c asked room
 
-    still-at-work : (clinic : Clinic) (given : ℕ) → clinic ≡ steps catalogue given start → given < K
+    still-at-work : (clinic : Clinic) (given : ℕ) → clinic ≡ steps catalogue given (posted (catalogue .sizes) choices) → given < K
         → isAtWork (clinic .seat .state) ≡ true
     still-at-work clinic given same l =
         let work = takes .at-work given l in
@@ -58,7 +58,7 @@ module _
     turn-waited : (asked : ℕ) (room : Room) → Sound catalogue room → WaitedFor asked room → WaitedFor (asked + 1) (turn catalogue room)
     turn-waited asked room sound waited = record {
       given = waited .given + cond (is c (served (room .desk))) 1 0;
-      stands = turn-stands catalogue fault c room sound (job start (waited .given)) (waited .stands);
+      stands = turn-stands catalogue fault c room sound (job choices (waited .given)) (waited .stands);
       in-pace = λ (l : waited .given + cond (is c (served (room .desk))) 1 0 < K). pace l;
     }
       where

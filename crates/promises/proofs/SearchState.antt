@@ -2,7 +2,7 @@
 -- is posted starts with no step made; a leave closes and blanks; turns move a seat on step by step; any other call leaves
 -- it where it stands.
 use Prim.Native.Nat.{ℕ, zero, suc, _<_}
-use mathlib.Core.Path.{_≡_, refl, sym, subst}
+use mathlib.Core.Path.{_≡_, refl, sym, ap, _∙_, subst}
 use mathlib.Core.Bool.{Bool, true, false, cond, _&&_, and-false}
 use mathlib.Core.List.{List, [], _∷_}
 use native.Mathlib.Omega.{arith}
@@ -11,35 +11,34 @@ use lib.Dec.{eqb}
 use borrow.Author.Tests.{eqb-true, eqb-false, ne-eqb}
 use Rattle.catalogue.specs.Catalogue.{Catalogue}
 use Rattle.catalogue.specs.Fault.{faultOf, member}
-use Rattle.seat.specs.Clinic.{Clinic, closedClinic}
+use Rattle.seat.specs.Clinic.{Clinic, nothing16, closedClinic}
 use Rattle.seat.specs.Step.{steps, posted}
 use Rattle.seat.specs.Count.{jobSteps}
 use Rattle.seat.proofs.ReadyJob.{job-ready-after}
 use Rattle.desk.specs.Room.{Room, clinicAt, withClinic}
 use Rattle.desk.specs.Call.{Call, enter, leave, choose, relax, options, example, turns, refused}
-use Rattle.desk.specs.Turn.{turnsMade, stepsGiven}
+use Rattle.desk.specs.Turn.{stepsGiven}
 use Rattle.desk.specs.Refusal.{refusal}
 use Rattle.desk.specs.Perform.{Outcome, choicesOf, done, perform, opening}
-use Rattle.desk.specs.Run.{Since, closed, job, moreSteps, postsFor, leavesFor, sinceCall, since, afterCalls}
+use Rattle.desk.specs.Run.{Since, closed, job, inForce, choicesBy, turnsAsked, moreSteps, postsFor, leavesFor, sinceCall, since, afterCalls}
 use Rattle.desk.proofs.Sound.{Sound}
 use Rattle.desk.proofs.SoundRuns.{call-sound}
 use Rattle.desk.proofs.WithClinic.{with-same, with-other, fresh-clinic}
 use Rattle.desk.proofs.OthersStay.{posted-bytes}
 use Rattle.desk.proofs.Performed.{perform-accepted, perform-refused, opening-accepted}
 use Rattle.desk.proofs.AcceptedCalls.{accepted}
-use Rattle.desk.proofs.TurnsMade.{made-suffice}
 use Rattle.promises.specs.Moment.{moment}
-use Rattle.promises.specs.SearchState.{SearchState, Stands, blank}
+use Rattle.promises.specs.SearchState.{SearchState, OwnChoices, Stands, blank}
 use Rattle.promises.proofs.SoundMoments.{not-refused, opened-faultless, sound-moment}
-use Rattle.promises.proofs.Standing.{stands-after, no-steps, turns-stand}
+use Rattle.promises.proofs.Standing.{stands-after, stands-choices, closed-no-choice, no-steps, turns-stand}
+use Rattle.promises.proofs.Lasting.{is-closed}
 
 -- a job that was just posted
-pub posted-stands : (catalogue : Catalogue) → faultOf catalogue ≡ 0 → (choices : List ℕ) (clinic : Clinic)
-    → clinic ≡ posted (catalogue .sizes) choices → Stands catalogue clinic (job clinic 0)
+posted-stands : (catalogue : Catalogue) → faultOf catalogue ≡ 0 → (choices : List ℕ) (clinic : Clinic)
+    → clinic ≡ posted (catalogue .sizes) choices → Stands catalogue clinic (job choices 0)
 unfolding steps
 posted-stands catalogue fault choices clinic same =
-    stands-after catalogue clinic clinic 0 (jobSteps catalogue choices) refl
-    (rw same (job-ready-after catalogue fault choices)) (omega arith)
+    stands-after catalogue choices clinic 0 (jobSteps catalogue choices) same (job-ready-after catalogue fault choices) (omega arith)
 
 module _
     (catalogue : Catalogue)
@@ -54,9 +53,9 @@ module _
     abbrev Kept : Call → Outcome → Type 0
     Kept call o =
         Stands catalogue (clinicAt (o .room) c)
-        (cond (postsFor c call && eqb (o .answer .number) 0) (job (clinicAt (o .room) c) 0)
+        (cond (postsFor c call && eqb (o .answer .number) 0) (job (choicesBy call (inForce s)) 0)
         (cond (leavesFor c call && eqb (o .answer .number) 0) closed
-        (moreSteps (stepsGiven catalogue c (o .answer .made) room) s)))
+        (moreSteps (stepsGiven catalogue c (cond (eqb (o .answer .number) 0) (turnsAsked call) 0) room) s)))
 
     unmoved : Stands catalogue (clinicAt room c) (moreSteps (stepsGiven catalogue c 0 room) s)
     unfolding stepsGiven
@@ -81,14 +80,15 @@ module _
     other-replaced d l clinic full e =
         rw (with-other room (sound .eight) (sound .board-length) d (room .desk .next) l clinic full c (eqb-false c d e)) unmoved
 
-    post-kept : (d : ℕ) → d < 8 → (choices : List ℕ) (t : Bool) → eqb c d ≡ t
+    -- a job posted for d, under choices that are those traced where d is c
+    post-kept : (d : ℕ) → d < 8 → (choices traced : List ℕ) → (d ≡ c → choices ≡ traced) → (t : Bool) → eqb c d ≡ t
         → Stands catalogue (clinicAt (replaced d (posted (catalogue .sizes) choices)) c)
-        (cond (t && true) (job (clinicAt (replaced d (posted (catalogue .sizes) choices)) c) 0)
-        (moreSteps (stepsGiven catalogue c 0 room) s))
-    post-kept d l choices true e =
-        posted-stands catalogue fault choices (clinicAt (replaced d (posted (catalogue .sizes) choices)) c)
-        (same-replaced d l (posted (catalogue .sizes) choices) (posted-bytes (catalogue .sizes) choices) e)
-    post-kept d l choices false e =
+        (cond (t && true) (job traced 0) (moreSteps (stepsGiven catalogue c 0 room) s))
+    post-kept d l choices traced own true e =
+        posted-stands catalogue fault traced (clinicAt (replaced d (posted (catalogue .sizes) choices)) c)
+        (same-replaced d l (posted (catalogue .sizes) choices) (posted-bytes (catalogue .sizes) choices) e
+        ∙ ap (posted (catalogue .sizes)) (own (sym (eqb-true c d e))))
+    post-kept d l choices traced own false e =
         other-replaced d l (posted (catalogue .sizes) choices) (posted-bytes (catalogue .sizes) choices) e
 
     leave-kept : (d : ℕ) → d < 8 → (t : Bool) → eqb c d ≡ t
@@ -96,19 +96,25 @@ module _
     leave-kept d l true e = blank (same-replaced d l closedClinic (length-replicate {A = ℕ} 4096 255) e)
     leave-kept d l false e = other-replaced d l closedClinic (length-replicate {A = ℕ} 4096 255) e
 
+    own-choices : (d : ℕ) → d ≡ c → choicesOf room d ≡ inForce s
+    own-choices d same = ap (choicesOf room) same ∙ stands-choices stands
+
     done-kept : (call : Call) → refusal catalogue call room ≡ 0 → Kept call (done catalogue call room)
     unfolding done member
     done-kept (enter d) h =
-        post-kept d (accepted catalogue (enter d) room h .seat-below refl) (choicesOf room d) (eqb c d) refl
+        let call = accepted catalogue (enter d) room h in
+        post-kept d (call .seat-below refl) (choicesOf room d) nothing16
+        (λ (same : d ≡ c). rw same (closed-no-choice stands (is-closed _ (rw same at (call .seat-closed refl))))) (eqb c d) refl
     done-kept (leave d) h = leave-kept d (accepted catalogue (leave d) room h .seat-below refl) (eqb c d) refl
     done-kept (choose d i a) h =
-        post-kept d (accepted catalogue (choose d i a) room h .seat-below refl) (set (choicesOf room d) i a) (eqb c d) refl
+        post-kept d (accepted catalogue (choose d i a) room h .seat-below refl) (set (choicesOf room d) i a) (set (inForce s) i a)
+        (λ (same : d ≡ c). ap (λ (choices : List ℕ). set choices i a) (own-choices d same)) (eqb c d) refl
     done-kept (relax d i) h =
-        post-kept d (accepted catalogue (relax d i) room h .seat-below refl) (set (choicesOf room d) i 255) (eqb c d) refl
+        post-kept d (accepted catalogue (relax d i) room h .seat-below refl) (set (choicesOf room d) i 255) (set (inForce s) i 255)
+        (λ (same : d ≡ c). ap (λ (choices : List ℕ). set choices i 255) (own-choices d same)) (eqb c d) refl
     done-kept (options d i) h = unmoved
     done-kept (example d i a) h = unmoved
-    done-kept (turns w) h =
-        rw (← made-suffice catalogue w room) (turns-stand catalogue fault c (turnsMade catalogue w room) room sound s stands)
+    done-kept (turns w) h = turns-stand catalogue fault c w room sound s stands
 
     pub call-kept : (call : Call) → Stands catalogue (clinicAt (perform catalogue call room .room) c) (sinceCall catalogue c call room s)
     call-kept call = go (refusal catalogue call room) refl
@@ -136,3 +142,6 @@ search-state catalogue board opens calls c l =
     stands-kept catalogue (opened-faultless catalogue board opens) c calls (opening catalogue board .room)
     (sound-moment catalogue board opens []) closed
     (rw (opening-accepted catalogue board (not-refused catalogue board opens)) (blank (fresh-clinic c l)))
+
+pub own-choices-traced : OwnChoices
+own-choices-traced catalogue board opens calls c l = stands-choices (search-state catalogue board opens calls c l)

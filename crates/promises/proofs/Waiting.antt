@@ -11,11 +11,11 @@ use Rattle.catalogue.specs.Catalogue.{Catalogue}
 use Rattle.catalogue.specs.Fault.{faultOf}
 use Rattle.seat.specs.declared.State.the-variants.{Ready}
 use Rattle.seat.specs.Clinic.{Clinic}
-use Rattle.seat.specs.Step.{ReadyAfter}
+use Rattle.seat.specs.Step.{steps, posted, ReadyAfter}
 use Rattle.desk.specs.Room.{Room, clinicAt}
 use Rattle.desk.specs.Call.{Call}
 use Rattle.desk.specs.Perform.{perform, opening}
-use Rattle.desk.specs.Run.{job, closed, since, afterCalls, allTurnsAsked, postsFor}
+use Rattle.desk.specs.Run.{job, closed, inForce, choicesBy, since, afterCalls, allTurnsAsked, postsFor}
 use Rattle.desk.proofs.Sound.{Sound}
 use Rattle.desk.proofs.SoundRuns.{call-sound}
 use Rattle.desk.proofs.CallKinds.{calls-joined}
@@ -29,9 +29,9 @@ use Rattle.promises.proofs.SearchState.{call-kept, search-state}
 use Rattle.promises.proofs.Pace.{Waited, calls-waited}
 
 -- after 8×K turns all steps were given
-waited-enough : (catalogue : Catalogue) (start : Clinic) (K : ℕ) → ReadyAfter catalogue start K → (c asked : ℕ) (room : Room)
-    → 8 * K ≤ asked → Waited catalogue start K c asked room → seatIn room c .state ≡ Ready
-waited-enough catalogue start K takes c asked room enough waited = go (ltb (waited .given) K) refl
+waited-enough : (catalogue : Catalogue) (choices : List ℕ) (K : ℕ) → ReadyAfter catalogue (posted (catalogue .sizes) choices) K
+    → (c asked : ℕ) (room : Room) → 8 * K ≤ asked → Waited catalogue choices K c asked room → seatIn room c .state ≡ Ready
+waited-enough catalogue choices K takes c asked room enough waited = go (ltb (waited .given) K) refl
   where
     go : (t : Bool) → ltb (waited .given) K ≡ t → seatIn room c .state ≡ Ready
     go true e =
@@ -64,35 +64,42 @@ module _
     posting-sound : Sound catalogue posting
     posting-sound = call-sound catalogue fault (moment catalogue board before) (sound-moment catalogue board opens before) post
 
-    just-posted : Stands catalogue (clinicAt posting c) (job (clinicAt posting c) 0)
+    -- the choices that it is posted under
+    abbrev choices : List ℕ
+    choices = choicesBy post (inForce (since catalogue c before (opening catalogue board .room) closed))
+
+    just-posted : Stands catalogue (clinicAt posting c) (job choices 0)
     just-posted =
         rw (posts, taken) at
         (call-kept catalogue fault c (moment catalogue board before) (sound-moment catalogue board opens before)
         (since catalogue c before (opening catalogue board .room) closed) (search-state catalogue board opens before c below) post)
 
+    is-posted : clinicAt posting c ≡ posted (catalogue .sizes) choices
+    unfolding steps
+    is-posted = in-the-search just-posted
+
     after-posting : (after : List Call) → moment catalogue board (before ++ post ∷ after) ≡ afterCalls catalogue after posting
     unfolding moment afterCalls
     after-posting after = calls-joined catalogue before (post ∷ after) (opening catalogue board .room)
 
-    waits : Waits catalogue board before post c
+    waits-for : (K : ℕ) → ReadyAfter catalogue (posted (catalogue .sizes) choices) K → Waits catalogue board before post c
     unfolding afterCalls
-    waits =
-        let K = job-length just-posted .0 in
-        let takes = job-length just-posted .1 in
-        record {
-          K = K;
-          takes-K = rw (after-posting []) takes;
-          ready-in-time = λ (after : List Call) others enough.
-              rw (after-posting after)
-              (waited-enough catalogue (clinicAt posting c) K takes c (0 + allTurnsAsked after)
-              (afterCalls catalogue after posting) (omega arith)
-              (calls-waited catalogue fault (clinicAt posting c) K takes c below others 0 posting posting-sound
-              (record {
-                given = 0;
-                stands = just-posted;
-                in-pace = λ (l : 0 < K). omega (arith, ahead-below (posting .desk .next) c);
-              })));
-        }
+    waits-for K takes = record {
+      K = K;
+      takes-K = rw (after-posting [], is-posted) takes;
+      ready-in-time = λ (after : List Call) others enough.
+          rw (after-posting after)
+          (waited-enough catalogue choices K takes c (0 + allTurnsAsked after) (afterCalls catalogue after posting) (omega arith)
+          (calls-waited catalogue fault choices K takes c below others 0 posting posting-sound
+          (record {
+            given = 0;
+            stands = just-posted;
+            in-pace = λ (l : 0 < K). omega (arith, ahead-below (posting .desk .next) c);
+          })));
+    }
+
+    waits : Waits catalogue board before post c
+    waits = waits-for (job-length just-posted .0) (job-length just-posted .1)
 
 pub waiting : Waiting
 waiting = waits

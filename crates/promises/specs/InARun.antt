@@ -1,4 +1,4 @@
--- What the paper promises "in a run as demand 3 describes".
+-- What the paper promises "in a run as demand 3 describes". What a ready seat shows is what the options call answers.
 use Prim.Native.Nat.{ℕ, _<_}
 use mathlib.Core.Path.{_≡_}
 use mathlib.Core.Logic.{_↔_}
@@ -11,18 +11,20 @@ use Rattle.seat.specs.declared.State.the-variants.{Ready}
 use Rattle.seat.specs.Bits.{hasBit}
 use Rattle.seat.specs.Clinic.{nothing16, noneLeft, emptyShare}
 use Rattle.desk.specs.Room.{Room, shareAt}
-use Rattle.desk.specs.Call.{Call}
+use Rattle.desk.specs.Call.{Call, options}
+use Rattle.desk.specs.Perform.{perform}
 use Rattle.promises.specs.Moment.{moment, Opened, seatIn}
 
 pub record InARun (catalogue : Catalogue) (room : Room) (c : ℕ) : Type 0 where
   -- in a ready seat a feature that has a choice shows that option alone as left
   pub choice-alone : seatIn room c .state ≡ Ready
       → (i x : ℕ) → i < length (catalogue .sizes) → getD (seatIn room c .choices) i 255 ≡ x → (x ≡ 255 → ⊥)
-      → (a : ℕ) → (hasBit (getD (seatIn room c .masks) i 0) a ≡ true) ↔ (a ≡ x)
+      → (a : ℕ) → (hasBit (perform catalogue (options c i) room .answer .mask) a ≡ true) ↔ (a ≡ x)
   -- if the catalogue has a build, every ready seat shows at least one option for each feature
   pub some-left : (build : List ℕ) → IsBuild catalogue nothing16 build → seatIn room c .state ≡ Ready
-      → (i : ℕ) → i < length (catalogue .sizes) → (a : ℕ) × (hasBit (getD (seatIn room c .masks) i 0) a ≡ true)
-  -- if it has none, no option anywhere
+      → (i : ℕ) → i < length (catalogue .sizes)
+      → (a : ℕ) × (hasBit (perform catalogue (options c i) room .answer .mask) a ≡ true)
+  -- if it has none, no option anywhere, whether the seat is ready or not: neither in the masks nor on the board
   pub none-left : ((build : List ℕ) → IsBuild catalogue nothing16 build → ⊥)
       → (seatIn room c .masks ≡ noneLeft) × (shareAt (room .board) c ≡ emptyShare)
 

@@ -1,17 +1,17 @@
 -- What a run rests on. After an accepted opening number 20 is never given: no call leaves a desk that doesn't fit the
--- catalogue. After a refused one every call gets the number that the opening got. And in a ready seat masks and share are
--- those of its last job, posted under the choices now in force and searched to its end.
+-- catalogue. After a refused one every call gets the number that the opening got, and no seat ever opens. And in a ready
+-- seat masks and share are those of its last job, posted under the choices now in force and searched to its end.
 use Prim.Native.Nat.{ℕ, _<_}
 use mathlib.Core.Path.{_≡_}
 use mathlib.Core.List.{List}
 use Rattle.catalogue.specs.Catalogue.{Catalogue}
-use Rattle.seat.specs.declared.State.the-variants.{Ready}
+use Rattle.seat.specs.declared.State.the-variants.{Closed, Ready}
 use Rattle.seat.specs.Clinic.{Clinic}
 use Rattle.seat.specs.Step.{steps, posted, ReadyAfter}
 use Rattle.desk.specs.Room.{clinicAt}
 use Rattle.desk.specs.Call.{Call}
 use Rattle.desk.specs.Perform.{perform, opening}
-use Rattle.promises.specs.Moment.{moment, Opened}
+use Rattle.promises.specs.Moment.{moment, Opened, seatIn}
 
 pub record NumbersInARun (catalogue : Catalogue) (board : List ℕ) (calls : List Call) (call : Call) : Type 0 where
   pub never-20 : Opened catalogue board → perform catalogue call (moment catalogue board calls) .answer .number ≡ 20 → ⊥
@@ -26,5 +26,7 @@ pub record JobDone (catalogue : Catalogue) (clinic : Clinic) : Type 0 where
 
 pub record LastJob : Type 0 where
   pub numbers : (catalogue : Catalogue) (board : List ℕ) (calls : List Call) (call : Call) → NumbersInARun catalogue board calls call
+  pub never-opens : (catalogue : Catalogue) (board : List ℕ) → (Opened catalogue board → ⊥) → (calls : List Call) (c : ℕ)
+      → seatIn (moment catalogue board calls) c .state ≡ Closed
   pub ready-done : (catalogue : Catalogue) (board : List ℕ) → Opened catalogue board → (calls : List Call) (c : ℕ) → c < 8
       → clinicAt (moment catalogue board calls) c .seat .state ≡ Ready → JobDone catalogue (clinicAt (moment catalogue board calls) c)

@@ -8,3 +8,5 @@ pub mod TwoRuns
 pub mod InARun
 pub mod LastJob
 pub mod Frame
+pub mod Posting
+pub mod TurnsAnswered
