@@ -26,11 +26,6 @@ pub enum Way {
     Exhausted,
 }
 
-pub struct Attempt {
-    pub way: Way,
-    pub trial: [u8; 16],
-}
-
 // One step for a seat at work: record and share of the written search after it.
 pub fn step(
     seat: Seat,
@@ -76,10 +71,8 @@ fn step_at(
     if chosen_otherwise(&choices, feature, option) {
         return pair_ended(seat, sizes, feature, option);
     }
-    let trial = seat.trial;
-    let attempt = try_next(place, &choices, trial, sizes, rules, places, counts);
-    let way = attempt.way;
-    let placed = attempt.trial;
+    let mut trial = seat.trial;
+    let way = try_next(place, &choices, &mut trial, sizes, rules, places, counts);
     match way {
         Way::GoOn { depth, next } => {
             let masks = seat.masks;
@@ -92,11 +85,11 @@ fn step_at(
                 }),
                 choices,
                 masks,
-                trial: placed,
+                trial,
             }
         }
         Way::Build => {
-            let found = with_example(seat, share, feature, option, &placed);
+            let found = with_example(seat, share, feature, option, &trial);
             pair_ended(found, sizes, feature, option)
         }
         Way::Exhausted => pair_ended(seat, sizes, feature, option),
@@ -116,47 +109,43 @@ fn chosen_otherwise(choices: &[u8], feature: u8, option: u8) -> bool
     choice != option
 }
 
-// Rules 2 to 5: the option is placed and tested against each rule whose highest-numbered feature is the depth.
+// Rules 2 to 5: the option is placed and tested against each rule whose highest-numbered feature is the depth. The trial
+// is changed where it stands: a record that is copied at every step costs more than the test.
 fn try_next(
     place: Place,
     choices: &[u8],
-    trial: [u8; 16],
+    trial: &mut [u8; 16],
     sizes: &[u8],
     rules: &[u16],
     places: &[u16],
     counts: &[u8],
-) -> Attempt
+) -> Way
     requires { ⌜ faultOf (record { sizes = now sizes; list = now rules }) ≡ 0 ⌝ }
     requires { ⌜ placeFits (record { sizes = now sizes; list = now rules }) place ≡ true ⌝ }
-    requires { ⌜ (length (now choices) ≡ 16) × ((f : ℕ) → f < place .depth → getD trial f 255 < 255) ⌝ }
+    requires { ⌜ (length (now choices) ≡ 16) × (length (now trial) ≡ 16) × ((f : ℕ) → f < place .depth → getD (now trial) f 255 < 255) ⌝ }
     requires { ⌜ AllStarts (now rules) (now places) (now counts) ⌝ }
-    ensures { λ r. ⌜ triedOf (r .way) (r .trial) ≡ tried (record { sizes = now (sizes .entry); list = now (rules .entry) }) (now (choices .entry)) (place .feature) (place .option) (place .depth) (place .next) trial ⌝ }
+    ensures { λ r. ⌜ (length (now (trial .exit)) ≡ 16) × (triedOf r (now (trial .exit)) ≡ tried (record { sizes = now (sizes .entry); list = now (rules .entry) }) (now (choices .entry)) (place .feature) (place .option) (place .depth) (place .next) (now (trial .entry))) ⌝ }
 {
     let depth = place.depth;
     let option = place.option;
     let next = place.next;
     let i = place.feature as usize;
     let j = depth as usize;
-    let mut placed = trial;
-    placed[j] = next;
+    let before = trial[j];
+    trial[j] = next;
     let from = j * 64;
     let to = from + byte(counts[j]);
-    if !catalogue::passes(rules, j, &places[from..to], &placed) {
+    if !catalogue::passes(rules, j, &places[from..to], trial) {
+        trial[j] = before;
         return given_up(sizes, choices, i, option, depth, next, trial);
     }
     if j + 1 == sizes.len() {
-        return Attempt {
-            way: Way::Build,
-            trial: placed,
-        };
+        return Way::Build;
     }
     let first = first_candidate(sizes, choices, i, option, j + 1);
-    Attempt {
-        way: Way::GoOn {
-            depth: depth + 1,
-            next: first,
-        },
-        trial: placed,
+    Way::GoOn {
+        depth: depth + 1,
+        next: first,
     }
 }
 
@@ -168,35 +157,28 @@ fn given_up(
     option: u8,
     depth: u8,
     v: u8,
-    trial: [u8; 16],
-) -> Attempt
+    trial: &mut [u8; 16],
+) -> Way
     requires { ⌜ (length (now choices) ≡ 16) × (length (now sizes) ≤ 16) × (depth < length (now sizes)) × (v < 255) ⌝ }
-    requires { ⌜ ((f : ℕ) → f < depth → getD trial f 255 < 255) ⌝ }
-    ensures { λ r. ⌜ triedOf (r .way) (r .trial) ≡ givenUp (now (sizes .entry)) (now (choices .entry)) i option depth v trial ⌝ }
+    requires { ⌜ (length (now trial) ≡ 16) × ((f : ℕ) → f < depth → getD (now trial) f 255 < 255) ⌝ }
+    ensures { λ r. ⌜ (length (now (trial .exit)) ≡ 16) × (triedOf r (now (trial .exit)) ≡ givenUp (now (sizes .entry)) (now (choices .entry)) i option depth v (now (trial .entry))) ⌝ }
 {
-    let mut placed = trial;
     let mut j = depth;
     let mut given = v;
     loop {
         match next_candidate(sizes, choices, i, option, j as usize, given) {
             Next::Candidate(next) => {
-                return Attempt {
-                    way: Way::GoOn { depth: j, next },
-                    trial: placed,
-                };
+                return Way::GoOn { depth: j, next };
             }
             Next::Nothing => {}
         }
         if j == 0 {
-            return Attempt {
-                way: Way::Exhausted,
-                trial: placed,
-            };
+            return Way::Exhausted;
         }
         j -= 1;
         let at = j as usize;
-        given = placed[at];
-        placed[at] = 255;
+        given = trial[at];
+        trial[at] = 255;
     }
 }
 

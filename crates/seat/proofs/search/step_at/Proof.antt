@@ -32,6 +32,9 @@ within c = place-at-work (catalogue c) (c .pre .0) (c .args .seat) (fits c) (c .
 choices-long : (c : tie.Start) → length (c .args .seat .choices) ≡ 16
 choices-long c = search needs
 
+trial-long-first : (c : tie.Start) → length (c .args .seat .trial) ≡ 16
+trial-long-first c = search needs
+
 -- what `pair_ended` asks of the sizes and the pair
 pair-bounds : (c : tie.Start)
     → (length (c .args .sizes .now) ≤ 16) × (c .args .place .feature < length (c .args .sizes .now)) × (c .args .place .option < 16) × (1 ≤ getD (c .args .sizes .now) 0 0)
@@ -66,19 +69,19 @@ slice-aggregate-try-next c = search needs
 
 try-next-requires : tie.Need-try-next-requires
 try-next-requires c κs =
-    let start = c .before .before .before .before .before .before .before .before .before .before .before in
+    let start = c .before .before .before .before .before .before .before .before .before .before .before .before in
     let placed = placed-below-16 (catalogue start) (start .pre .0) (start .args .seat) (fits start) (start .args .place) (start .pre .1 .1 .0 .0) in
-    (start .pre .0, (fits-place (within start), ((choices-long start, λ f l. lt-trans (placed f l) (lit< tt)), start .pre .1 .1 .1)))
+    (start .pre .0, (fits-place (within start), ((choices-long start, trial-long-first start, λ f l. lt-trans (placed f l) (lit< tt)), start .pre .1 .1 .1)))
 
 -- the step is what comes of trying the option
 step-tries : (c : tie.After-try-next)
-    → stepAt (catalogue (c .before .before .before .before .before .before .before .before .before .before .before .before)) (c .before .before .before .before .before .before .before .before .before .before .before .before .args .place) (clinic (c .before .before .before .before .before .before .before .before .before .before .before .before))
-    ≡ afterTried (c .before .before .before .before .before .before .before .before .before .before .before .before .args .sizes .now) (c .before .before .before .before .before .before .before .before .before .before .before .before .args .place .feature) (c .before .before .before .before .before .before .before .before .before .before .before .before .args .place .option)
-    (clinic (c .before .before .before .before .before .before .before .before .before .before .before .before)) (triedOf (c .try-next .result .way) (c .try-next .result .trial))
+    → stepAt (catalogue (c .before .before .before .before .before .before .before .before .before .before .before .before .before)) (c .before .before .before .before .before .before .before .before .before .before .before .before .before .args .place) (clinic (c .before .before .before .before .before .before .before .before .before .before .before .before .before))
+    ≡ afterTried (c .before .before .before .before .before .before .before .before .before .before .before .before .before .args .sizes .now) (c .before .before .before .before .before .before .before .before .before .before .before .before .before .args .place .feature) (c .before .before .before .before .before .before .before .before .before .before .before .before .before .args .place .option)
+    (clinic (c .before .before .before .before .before .before .before .before .before .before .before .before .before)) (triedOf (c .try-next .result) (c .try-next .last .1 .1 .0))
 unfolding stepAt
 step-tries c =
-    let free : otherwise (c .before .before .before .before .before .before .before .before .before .before .before .before) ≡ false = sym (c .before .before .before .before .chosen-otherwise .ensures) ∙ c .before .before .before .if1 .left in
-    rw (free, c .try-next .ensures)
+    let free : otherwise (c .before .before .before .before .before .before .before .before .before .before .before .before .before) ≡ false = sym (c .before .before .before .before .before .chosen-otherwise .ensures) ∙ c .before .before .before .before .if1 .left in
+    rw (free, c .try-next .ensures .1)
 
 enum-known-way : tie.Need-enum-known-way
 enum-known-way c = search needs
@@ -86,13 +89,10 @@ enum-known-way c = search needs
 enum-told : tie.Need-enum-told
 enum-told c = search needs
 
-trial-long : (c : tie.After-try-next) → length (c .try-next .result .trial) ≡ 16
-trial-long c = search needs
-
 with-example-requires : tie.Need-with-example-requires
 with-example-requires c κs =
     let start = c .before .before .before .before .before .before .before .before .before .before .before .before .before .before .before .before .before in
-    (feature-below-16 (catalogue start) (start .pre .0) (within start), pair-bounds start .2, start .pre .1 .1 .0 .1, trial-long (c .before .before .before .before .before))
+    (feature-below-16 (catalogue start) (start .pre .0) (within start), pair-bounds start .2, start .pre .1 .1 .0 .1, c .before .before .before .before .try-next .ensures .0)
 
 choices-long-still : (c : tie.After-with-example) → length (c .with-example .result .choices) ≡ 16
 choices-long-still c = search needs
@@ -114,7 +114,7 @@ pair-ended-requires-3 c κs =
 
 returns-2 : tie.Need-returns-2
 unfolding afterTried
-returns-2 c = sym (rw (c .before .before .way .given .1) at (step-tries (c .before .before .before .before .before)))
+returns-2 c = sym (rw (c .before .before .way .given .1) at (step-tries (c .before .before .before .before)))
 
 same-length : tie.Need-same-length
 same-length c = search needs
@@ -124,12 +124,12 @@ unfolding afterTried pairEnded
 returns-3 c =
     let a = c .before .before .before .before .before .before .before .before .before .before .before .before .before .before .before .before .before .before .before .before .before .args in
     let ended = ap (pairEnded (a .sizes .now) (a .place .feature) (a .place .option)) (c .before .before .before .with-example .ensures) in
-    rw (c .pair-ended2 .ensures) (ended ∙ sym (rw (c .before .before .before .before .before .before .enum-told .given .1) at (step-tries (c .before .before .before .before .before .before .before .before .before))))
+    rw (c .pair-ended2 .ensures) (ended ∙ sym (rw (c .before .before .before .before .before .before .enum-told .given .1) at (step-tries (c .before .before .before .before .before .before .before .before))))
 
 returns-4 : tie.Need-returns-4
 unfolding afterTried pairEnded
 returns-4 c =
-    rw (c .pair-ended3 .ensures) (sym (rw (c .before .enum-told2 .given .1) at (step-tries (c .before .before .before .before))))
+    rw (c .pair-ended3 .ensures) (sym (rw (c .before .enum-told2 .given .1) at (step-tries (c .before .before .before))))
 
 pub step-at-spec : {M : Type 1} → statement M
 step-at-spec =
