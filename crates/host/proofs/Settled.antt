@@ -1,0 +1,84 @@
+-- The contracts of the door leave nothing open: any two outcomes that the contract of a call allows for the same input are
+-- equal. As for the desk's own calls, each contract is one equation of the whole outcome.
+use Prim.Native.Nat.{ℕ}
+use mathlib.Core.Path.{_≡_, sym, ap, _∙_}
+use mathlib.Core.List.{List}
+use Rattle.catalogue.specs.Catalogue.{Catalogue}
+use Rattle.desk.specs.Call.{Answer, enter, leave, choose, relax, options, example, turns}
+use Rattle.desk.proofs.Settled.{Settled, SettledWithBoard}
+use Rattle.host.specs.declared.records.HostDesk.{HostDesk}
+use Rattle.host.specs.declared.records.HostChanged.{HostChanged}
+use Rattle.host.specs.declared.records.HostLeft.{HostLeft}
+use Rattle.host.specs.declared.records.HostExample.{HostExample}
+use Rattle.host.specs.declared.records.HostTurned.{HostTurned}
+use Rattle.host.specs.Door.{HostOutcome, inside, throughDoor, openedDoor, hostChangedOutcome, hostLeftAnswer, hostTurnedOutcome, exampleStands}
+
+-- what the contracts of open, enter, leave, choose and relax say, then that of options, then that of turns
+abbrev pub ChangesTo : HostOutcome → HostChanged → List ℕ → Type 0
+ChangesTo outcome r board = hostChangedOutcome r board ≡ outcome
+
+abbrev pub ReadsAs : Answer → HostLeft → Type 0
+ReadsAs answer r = hostLeftAnswer r ≡ answer
+
+abbrev pub TurnsTo : HostOutcome → HostTurned → List ℕ → Type 0
+TurnsTo outcome r board = hostTurnedOutcome r board ≡ outcome
+
+abbrev changedIn : HostOutcome → HostChanged
+changedIn outcome = record { number = outcome .answer .number; desk = outcome .desk }
+
+abbrev leftIn : Answer → HostLeft
+leftIn answer = record { number = answer .number; mask = answer .mask; count = answer .count }
+
+abbrev turnedIn : HostOutcome → HostTurned
+turnedIn outcome = record {
+  number = outcome .answer .number;
+  made = outcome .answer .made;
+  working = outcome .answer .working;
+  desk = outcome .desk;
+}
+
+abbrev boardAfter : HostOutcome → List ℕ
+boardAfter outcome = outcome .board
+
+one-change : (outcome : HostOutcome) → SettledWithBoard (ChangesTo outcome)
+one-change outcome r₁ r₂ b₁ b₂ e₁ e₂ = let same = e₁ ∙ sym e₂ in (ap changedIn same, ap boardAfter same)
+
+one-reading : (answer : Answer) → Settled (ReadsAs answer)
+one-reading answer r₁ r₂ e₁ e₂ = ap leftIn (e₁ ∙ sym e₂)
+
+one-place : (place : HostExample) → Settled (λ (r : HostExample). r ≡ place)
+one-place place r₁ r₂ e₁ e₂ = e₁ ∙ sym e₂
+
+one-turning : (outcome : HostOutcome) → SettledWithBoard (TurnsTo outcome)
+one-turning outcome r₁ r₂ b₁ b₂ e₁ e₂ = let same = e₁ ∙ sym e₂ in (ap turnedIn same, ap boardAfter same)
+
+pub open-settled : (catalogue : Catalogue) (board : List ℕ) → SettledWithBoard (ChangesTo (openedDoor catalogue board))
+open-settled catalogue board = one-change (openedDoor catalogue board)
+
+module _ (catalogue : Catalogue) (given : HostDesk) (board : List ℕ) where
+  pub turns-settled : (w : ℕ) → SettledWithBoard (TurnsTo (throughDoor catalogue (turns w) given board))
+  turns-settled w = one-turning (throughDoor catalogue (turns w) given board)
+
+  module _ (c : ℕ) where
+    pub enter-settled : SettledWithBoard (ChangesTo (throughDoor catalogue (enter c) given board))
+    enter-settled = one-change (throughDoor catalogue (enter c) given board)
+
+    pub leave-settled : SettledWithBoard (ChangesTo (throughDoor catalogue (leave c) given board))
+    leave-settled = one-change (throughDoor catalogue (leave c) given board)
+
+    module _ (i : ℕ) where
+      pub relax-settled : SettledWithBoard (ChangesTo (throughDoor catalogue (relax c i) given board))
+      relax-settled = one-change (throughDoor catalogue (relax c i) given board)
+
+      pub options-settled : Settled (ReadsAs (inside catalogue (options c i) given board .answer))
+      options-settled = one-reading (inside catalogue (options c i) given board .answer)
+
+      module _ (a : ℕ) where
+        pub choose-settled : SettledWithBoard (ChangesTo (throughDoor catalogue (choose c i a) given board))
+        choose-settled = one-change (throughDoor catalogue (choose c i a) given board)
+
+        abbrev pub exampleNumber : ℕ
+        exampleNumber = inside catalogue (example c i a) given board .answer .number
+
+        pub example-settled : Settled (λ (r : HostExample). r ≡ exampleStands exampleNumber c i a)
+        example-settled = one-place (exampleStands exampleNumber c i a)

@@ -1,0 +1,149 @@
+// The door for C and Rust hosts: each of the desk's calls, over plain records. A call converts the host's desk, calls
+// the desk and converts its answer back; a refused call hands the host's own record back, exactly as it was.
+mod answers;
+mod convert;
+mod records;
+
+use answers::changed_back;
+use answers::left_back;
+use answers::turned_back;
+use convert::desk_of;
+use convert::host_desk_of;
+pub use records::HostChanged;
+pub use records::HostDesk;
+pub use records::HostExample;
+pub use records::HostLeft;
+pub use records::HostSeat;
+pub use records::HostTurned;
+ghost use mathlib.Core.Path.{_≡_};
+ghost use lib.ListN.{take, drop};
+ghost use Rattle.desk.specs.Call.{enter, leave, choose, relax, options, example, turns};
+ghost use Rattle.host.specs.Door.{inside, throughDoor, openedDoor, hostChangedOutcome, hostLeftAnswer, hostTurnedOutcome, exampleStands};
+
+#[no_mangle]
+pub extern "C" fn nethazel_open(board: &mut [u8], sizes: &[u8], rules: &[u16]) -> HostChanged
+    ensures { λ r. ⌜ hostChangedOutcome r (now (board .exit)) ≡ openedDoor (record { sizes = now (sizes .entry); list = now (rules .entry) }) (now (board .entry)) ⌝ }
+{
+    let opened = desk::open(board, sizes, rules);
+    let desk = opened.desk;
+    HostChanged {
+        number: opened.number,
+        desk: host_desk_of(desk),
+    }
+}
+
+#[no_mangle]
+pub extern "C" fn nethazel_enter(
+    given: HostDesk,
+    board: &mut [u8],
+    sizes: &[u8],
+    rules: &[u16],
+    c: usize,
+) -> HostChanged
+    ensures { λ r. ⌜ hostChangedOutcome r (now (board .exit)) ≡ throughDoor (record { sizes = now (sizes .entry); list = now (rules .entry) }) (enter c) given (now (board .entry)) ⌝ }
+{
+    let changed = desk::enter(desk_of(given), board, sizes, rules, c);
+    changed_back(given, changed)
+}
+
+#[no_mangle]
+pub extern "C" fn nethazel_leave(
+    given: HostDesk,
+    board: &mut [u8],
+    sizes: &[u8],
+    rules: &[u16],
+    c: usize,
+) -> HostChanged
+    ensures { λ r. ⌜ hostChangedOutcome r (now (board .exit)) ≡ throughDoor (record { sizes = now (sizes .entry); list = now (rules .entry) }) (leave c) given (now (board .entry)) ⌝ }
+{
+    let changed = desk::leave(desk_of(given), board, sizes, rules, c);
+    changed_back(given, changed)
+}
+
+#[no_mangle]
+pub extern "C" fn nethazel_choose(
+    given: HostDesk,
+    board: &mut [u8],
+    sizes: &[u8],
+    rules: &[u16],
+    c: usize,
+    i: usize,
+    a: usize,
+) -> HostChanged
+    ensures { λ r. ⌜ hostChangedOutcome r (now (board .exit)) ≡ throughDoor (record { sizes = now (sizes .entry); list = now (rules .entry) }) (choose c i a) given (now (board .entry)) ⌝ }
+{
+    let changed = desk::choose(desk_of(given), board, sizes, rules, c, i, a);
+    changed_back(given, changed)
+}
+
+#[no_mangle]
+pub extern "C" fn nethazel_relax(
+    given: HostDesk,
+    board: &mut [u8],
+    sizes: &[u8],
+    rules: &[u16],
+    c: usize,
+    i: usize,
+) -> HostChanged
+    ensures { λ r. ⌜ hostChangedOutcome r (now (board .exit)) ≡ throughDoor (record { sizes = now (sizes .entry); list = now (rules .entry) }) (relax c i) given (now (board .entry)) ⌝ }
+{
+    let changed = desk::relax(desk_of(given), board, sizes, rules, c, i);
+    changed_back(given, changed)
+}
+
+#[no_mangle]
+pub extern "C" fn nethazel_options(
+    given: HostDesk,
+    board: &[u8],
+    sizes: &[u8],
+    rules: &[u16],
+    c: usize,
+    i: usize,
+) -> HostLeft
+    ensures { λ r. ⌜ hostLeftAnswer r ≡ inside (record { sizes = now (sizes .entry); list = now (rules .entry) }) (options c i) given (now (board .entry)) .answer ⌝ }
+{
+    left_back(desk::options(desk_of(given), board, sizes, rules, c, i))
+}
+
+// Both of the desk's calls for an example in one: the number, and where the bytes stand that the desk hands out.
+#[no_mangle]
+pub extern "C" fn nethazel_example(
+    given: HostDesk,
+    board: &[u8],
+    sizes: &[u8],
+    rules: &[u16],
+    c: usize,
+    i: usize,
+    a: usize,
+) -> HostExample
+    ensures place { λ r. ⌜ r ≡ exampleStands (inside (record { sizes = now (sizes .entry); list = now (rules .entry) }) (example c i a) given (now (board .entry)) .answer .number) c i a ⌝ }
+    ensures bytes { λ r. ⌜ take (r .length) (drop (r .from) (now (board .entry))) ≡ inside (record { sizes = now (sizes .entry); list = now (rules .entry) }) (example c i a) given (now (board .entry)) .answer .bytes ⌝ }
+{
+    let number = desk::example_number(desk_of(given), board, sizes, rules, c, i, a);
+    if number != 0 {
+        return HostExample {
+            number,
+            from: 0,
+            length: 0,
+        };
+    }
+    HostExample {
+        number: 0,
+        from: c * 4096 + i * 256 + a * 16,
+        length: 16,
+    }
+}
+
+#[no_mangle]
+pub extern "C" fn nethazel_turns(
+    given: HostDesk,
+    board: &mut [u8],
+    sizes: &[u8],
+    rules: &[u16],
+    w: u16,
+) -> HostTurned
+    ensures { λ r. ⌜ hostTurnedOutcome r (now (board .exit)) ≡ throughDoor (record { sizes = now (sizes .entry); list = now (rules .entry) }) (turns w) given (now (board .entry)) ⌝ }
+{
+    let turned = desk::turns(desk_of(given), board, sizes, rules, w);
+    turned_back(given, turned)
+}
