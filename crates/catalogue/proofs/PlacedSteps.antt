@@ -3,11 +3,11 @@
 use Prim.Native.Nat.{ℕ, zero, suc, _+_, _-_, _*_, _≤_, _<_, max}
 use mathlib.Core.Path.{_≡_, refl}
 use mathlib.Core.Bool.{true, false, _||_}
-use mathlib.Core.List.{List, [], _∷_, _++_, append-assoc, append-nil}
+use mathlib.Core.List.{List, [], _∷_}
 use native.Mathlib.Numerals.{add-one, sub-one}
 use native.Mathlib.Nat.{add-comm, mul-suc, not-suc-le-zero, le-of-suc-le-suc}
-use lib.ListN.{length, getD, take, drop, set, drop-of-length-le}
-use lib.Seq.{drop-cons, take-suc-set}
+use lib.ListN.{length, getD, take, drop, drop-of-length-le}
+use lib.Seq.{drop-cons}
 use borrow.Author.Tests.{eq-eqb, ne-eqb}
 use Rattle.catalogue.specs.Rule.{highest, optionAt, optionsAt, matches, someRow}
 use Rattle.catalogue.specs.Catalogue.{rowsRead}
@@ -26,32 +26,24 @@ pub highest-end : (l : List ℕ) (i : ℕ) → length l ≤ i → highest (drop 
 unfolding highest
 highest-end l i h = rw (drop-of-length-le l h)
 
-pub options-step : (placed features options : List ℕ) (i : ℕ) → i < length features → i < length options
-    → take (i + 1) (set options i (optionAt placed (getD features i 0))) ++ optionsAt placed (drop (i + 1) features)
-    ≡ take i options ++ optionsAt placed (drop i features)
-unfolding optionsAt
-options-step placed features options i h k =
-    rw (add-one i, take-suc-set options i, append-assoc, drop-cons features i 0)
+-- what is left of a row, and the options placed at what is left of the features
+pub matches-step : (row features placed : List ℕ) (i : ℕ) → i < length row → i < length features
+    → getD row i 0 ≡ optionAt placed (getD features i 0)
+    → matches (drop i row) (optionsAt placed (drop i features))
+    ≡ matches (drop (i + 1) row) (optionsAt placed (drop (i + 1) features))
+unfolding matches optionsAt
+matches-step row features placed i h k e = rw (add-one i, drop-cons row i 0, drop-cons features i 0, eq-eqb _ _ e)
 
-pub options-end : (placed features options : List ℕ) (i : ℕ) → length features ≤ i
-    → take i options ++ optionsAt placed (drop i features) ≡ take i options
-unfolding optionsAt
-options-end placed features options i h = rw (drop-of-length-le features h, append-nil)
+pub matches-stop : (row features placed : List ℕ) (i : ℕ) → i < length row → i < length features
+    → (getD row i 0 ≡ optionAt placed (getD features i 0) → ⊥)
+    → matches (drop i row) (optionsAt placed (drop i features)) ≡ false
+unfolding matches optionsAt
+matches-stop row features placed i h k e = rw (drop-cons row i 0, drop-cons features i 0, ne-eqb _ _ e)
 
-pub matches-step : (row options : List ℕ) (i : ℕ) → i < length row → i < length options → getD row i 0 ≡ getD options i 0
-    → matches (drop i row) (drop i options) ≡ matches (drop (i + 1) row) (drop (i + 1) options)
-unfolding matches
-matches-step row options i h k e = rw (add-one i, drop-cons row i 0, drop-cons options i 0, eq-eqb _ _ e)
-
-pub matches-stop : (row options : List ℕ) (i : ℕ) → i < length row → i < length options → (getD row i 0 ≡ getD options i 0 → ⊥)
-    → matches (drop i row) (drop i options) ≡ false
-unfolding matches
-matches-stop row options i h k e = rw (drop-cons row i 0, drop-cons options i 0, ne-eqb _ _ e)
-
-pub matches-end : (row options : List ℕ) (i : ℕ) → length row ≤ i → length options ≤ i
-    → matches (drop i row) (drop i options) ≡ true
-unfolding matches
-matches-end row options i h k = rw (drop-of-length-le row h, drop-of-length-le options k)
+pub matches-end : (row features placed : List ℕ) (i : ℕ) → length row ≤ i → length features ≤ i
+    → matches (drop i row) (optionsAt placed (drop i features)) ≡ true
+unfolding matches optionsAt
+matches-end row features placed i h k = rw (drop-of-length-le row h, drop-of-length-le features k)
 
 -- a count that falls by one
 pub product-step : (k left : ℕ) → 0 < left → k * left ≡ k + k * (left - 1)

@@ -45,9 +45,9 @@ unfolding rowsRead
 rows-of-part k zero l = refl
 rows-of-part k (suc m) l = rw (mul-suc, add-comm (k * m) k, take-take k (k + k * m) l (le-add-right k (k * m)), drop-take, rows-of-part k m (drop k l))
 
-pub satisfied-by-parts : (list placed options : List ℕ) → take (arity list) options ≡ optionsAt placed (featuresRead list)
+pub satisfied-by-parts : (list placed : List ℕ)
     → someRow (rowsRead (arity list) (rowCount list) (take (arity list * rowCount list) (drop (rowsBegin list) list)))
-    (take (arity list) options)
+    (optionsAt placed (featuresRead list))
     ≡ satisfies placed (ruleRead list)
 unfolding satisfies ruleRead
-satisfied-by-parts list placed options e = rw (rows-of-part, e)
+satisfied-by-parts list placed = rw rows-of-part

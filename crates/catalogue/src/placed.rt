@@ -4,7 +4,7 @@ use crate::numbers::wide;
 ghost use mathlib.Core.Path.{_≡_};
 ghost use mathlib.Core.Bool.{true};
 ghost use Prim.Native.Nat.{_≤_, _*_};
-ghost use lib.ListN.{length, take};
+ghost use lib.ListN.{length, getD, take};
 ghost use Rattle.catalogue.specs.Rule.{highest, matches, someRow, optionAt, optionsAt, satisfies, passes};
 ghost use Rattle.catalogue.specs.Catalogue.{rowsRead, ruleRead, rulesRead};
 ghost use Rattle.catalogue.specs.Starts.{wholeRule, wholeRules, startsAt, AllStarts};
@@ -96,22 +96,7 @@ fn satisfied(list: &[u16], placed: &[u8]) -> bool
     let m = wide(list[1]);
     let body = 2 + k;
     let end = body + k * m;
-    let options = options_at(placed, &list[2..body]);
-    some_row(&list[body..end], m, &options[..k])
-}
-
-// The options placed at some features, in their order, at the front of six numbers.
-fn options_at(placed: &[u8], features: &[u16]) -> [u16; 6]
-    requires { ⌜ length (now features) ≤ 6 ⌝ }
-    ensures { λ r. ⌜ (length r ≡ 6) × (take (length (now (features .entry))) r ≡ optionsAt (now (placed .entry)) (now (features .entry))) ⌝ }
-{
-    let mut options = [0u16; 6];
-    let mut i = 0;
-    while i < features.len() {
-        options[i] = option_at(placed, wide(features[i]));
-        i += 1;
-    }
-    options
+    some_row(&list[body..end], m, &list[2..body], placed)
 }
 
 fn option_at(placed: &[u8], feature: usize) -> u16
@@ -124,16 +109,17 @@ fn option_at(placed: &[u8], feature: usize) -> u16
     }
 }
 
-// The row test: whether one of the rows, which stand one after another, matches the options.
-fn some_row(rows: &[u16], count: usize, options: &[u16]) -> bool
-    requires { ⌜ length (now options) * count ≡ length (now rows) ⌝ }
-    ensures { λ r. ⌜ r ≡ someRow (rowsRead (length (now (options .entry))) count (now (rows .entry))) (now (options .entry)) ⌝ }
+// The row test: whether one of the rows, which stand one after another, matches what is placed at the features.
+fn some_row(rows: &[u16], count: usize, features: &[u16], placed: &[u8]) -> bool
+    requires { ⌜ (length (now features) * count ≡ length (now rows)) × (1 ≤ length (now features)) ⌝ }
+    ensures { λ r. ⌜ r ≡ someRow (rowsRead (length (now (features .entry))) count (now (rows .entry))) (optionsAt (now (placed .entry)) (now (features .entry))) ⌝ }
 {
+    let first = option_at(placed, wide(features[0]));
     let mut left = count;
     let mut place = 0;
     while 0 < left {
-        let end = place + options.len();
-        if row_matches(&rows[place..end], options) {
+        let end = place + features.len();
+        if row_matches(&rows[place..end], first, features, placed) {
             return true;
         }
         place = end;
@@ -142,13 +128,17 @@ fn some_row(rows: &[u16], count: usize, options: &[u16]) -> bool
     false
 }
 
-fn row_matches(row: &[u16], options: &[u16]) -> bool
-    requires { ⌜ length (now row) ≡ length (now options) ⌝ }
-    ensures { λ r. ⌜ r ≡ matches (now (row .entry)) (now (options .entry)) ⌝ }
+// The option at the first feature is looked up once for all rows, since most rows differ there already.
+fn row_matches(row: &[u16], first: u16, features: &[u16], placed: &[u8]) -> bool
+    requires { ⌜ (length (now row) ≡ length (now features)) × (1 ≤ length (now features)) × (first ≡ optionAt (now placed) (getD (now features) 0 0)) ⌝ }
+    ensures { λ r. ⌜ r ≡ matches (now (row .entry)) (optionsAt (now (placed .entry)) (now (features .entry))) ⌝ }
 {
-    let mut i = 0;
-    while i < options.len() {
-        if row[i] != options[i] {
+    if row[0] != first {
+        return false;
+    }
+    let mut i = 1;
+    while i < features.len() {
+        if row[i] != option_at(placed, wide(features[i])) {
             return false;
         }
         i += 1;

@@ -5,30 +5,26 @@ use crate::State;
 use crate::candidates::Next;
 use crate::candidates::first_candidate;
 use crate::candidates::next_candidate;
+use crate::share::empty;
 use crate::share::write_example;
 ghost use mathlib.Core.Path.{_≡_};
 ghost use mathlib.Core.Bool.{true, false};
 ghost use Prim.Native.Nat.{ℕ, _<_, _≤_};
-ghost use lib.ListN.{length, getD};
+ghost use lib.ListN.{length, getD, set};
 ghost use Rattle.catalogue.specs.Fault.{faultOf};
 ghost use Rattle.seat.specs.Candidates.{chosenOtherwise};
-ghost use Rattle.seat.specs.Clinic.{nothing16, withExample};
+ghost use Rattle.seat.specs.Bits.{withBit};
+ghost use Rattle.seat.specs.Clinic.{nothing16, put, examplePlace};
 ghost use Rattle.seat.specs.Step.{givenUp, tried, started, afterPair, stepAt, step};
 ghost use Rattle.seat.specs.Fit.{seatFits, placeFits};
 ghost use Rattle.catalogue.specs.Starts.{AllStarts};
-ghost use Rattle.seat.specs.Ways.{triedOf};
-ghost use Rattle.seat.specs.declared.State.the-variants.{AtWork};
+ghost use Rattle.seat.specs.Ways.{triedOf, atWork};
 
 // What comes of trying an option.
 pub enum Way {
     GoOn { depth: u8, next: u8 },
     Build,
     Exhausted,
-}
-
-pub struct Attempt {
-    pub way: Way,
-    pub trial: [u8; 16],
 }
 
 // One step for a seat at work: record and share of the written search after it.
@@ -50,56 +46,68 @@ pub fn step(
     match state {
         State::Closed => seat,
         State::Ready => seat,
-        State::AtWork(place) => step_at(seat, place, share, sizes, rules, places, counts),
+        State::AtWork(place) => {
+            let choices = seat.choices;
+            let mut masks = seat.masks;
+            let mut trial = seat.trial;
+            let after = step_at(
+                place,
+                &choices,
+                &mut masks,
+                &mut trial,
+                share,
+                sizes,
+                rules,
+                places,
+                counts,
+            );
+            Seat {
+                state: after,
+                choices,
+                masks,
+                trial,
+            }
+        }
     }
 }
 
-// Rule 1, then the others.
+// Rule 1, then the others. Masks and trial are changed where they stand: a record that is made anew for each way on is
+// copied more than once a step.
 fn step_at(
-    seat: Seat,
     place: Place,
+    choices: &[u8],
+    masks: &mut [u16; 16],
+    trial: &mut [u8; 16],
     share: &mut [u8],
     sizes: &[u8],
     rules: &[u16],
     places: &[u16],
     counts: &[u8],
-) -> Seat
+) -> State
     requires { ⌜ faultOf (record { sizes = now sizes; list = now rules }) ≡ 0 ⌝ }
-    requires { ⌜ seatFits (record { sizes = now sizes; list = now rules }) seat ≡ true ⌝ }
-    requires { ⌜ (seat .state ≡ AtWork place) × (length (now share) ≡ 4096) ⌝ }
+    requires { ⌜ seatFits (record { sizes = now sizes; list = now rules }) (atWork place (now choices) (now masks) (now trial)) ≡ true ⌝ }
+    requires { ⌜ (length (now choices) ≡ 16) × (length (now masks) ≡ 16) × (length (now trial) ≡ 16) × (length (now share) ≡ 4096) ⌝ }
     requires { ⌜ AllStarts (now rules) (now places) (now counts) ⌝ }
-    ensures { λ r. ⌜ record { seat = r; share = now (share .exit) } ≡ stepAt (record { sizes = now (sizes .entry); list = now (rules .entry) }) place (record { seat = seat; share = now (share .entry) }) ⌝ }
+    ensures { λ r. ⌜ record { seat = record { state = r; choices = now (choices .entry); masks = now (masks .exit); trial = now (trial .exit) }; share = now (share .exit) } ≡ stepAt (record { sizes = now (sizes .entry); list = now (rules .entry) }) place (record { seat = atWork place (now (choices .entry)) (now (masks .entry)) (now (trial .entry)); share = now (share .entry) }) ⌝ }
 {
-    let choices = seat.choices;
     let feature = place.feature;
     let option = place.option;
-    if chosen_otherwise(&choices, feature, option) {
-        return pair_ended(seat, sizes, feature, option);
+    if chosen_otherwise(choices, feature, option) {
+        return pair_ended(trial, sizes, choices, feature, option);
     }
-    let trial = seat.trial;
-    let attempt = try_next(place, &choices, trial, sizes, rules, places, counts);
-    let way = attempt.way;
-    let placed = attempt.trial;
+    let way = try_next(place, choices, trial, sizes, rules, places, counts);
     match way {
-        Way::GoOn { depth, next } => {
-            let masks = seat.masks;
-            Seat {
-                state: State::AtWork(Place {
-                    feature,
-                    option,
-                    depth,
-                    next,
-                }),
-                choices,
-                masks,
-                trial: placed,
-            }
-        }
+        Way::GoOn { depth, next } => State::AtWork(Place {
+            feature,
+            option,
+            depth,
+            next,
+        }),
         Way::Build => {
-            let found = with_example(seat, share, feature, option, &placed);
-            pair_ended(found, sizes, feature, option)
+            with_example(masks, share, feature, option, trial);
+            pair_ended(trial, sizes, choices, feature, option)
         }
-        Way::Exhausted => pair_ended(seat, sizes, feature, option),
+        Way::Exhausted => pair_ended(trial, sizes, choices, feature, option),
     }
 }
 
@@ -116,47 +124,43 @@ fn chosen_otherwise(choices: &[u8], feature: u8, option: u8) -> bool
     choice != option
 }
 
-// Rules 2 to 5: the option is placed and tested against each rule whose highest-numbered feature is the depth.
+// Rules 2 to 5: the option is placed and tested against each rule whose highest-numbered feature is the depth. The trial
+// is changed where it stands: a record that is copied at every step costs more than the test.
 fn try_next(
     place: Place,
     choices: &[u8],
-    trial: [u8; 16],
+    trial: &mut [u8; 16],
     sizes: &[u8],
     rules: &[u16],
     places: &[u16],
     counts: &[u8],
-) -> Attempt
+) -> Way
     requires { ⌜ faultOf (record { sizes = now sizes; list = now rules }) ≡ 0 ⌝ }
     requires { ⌜ placeFits (record { sizes = now sizes; list = now rules }) place ≡ true ⌝ }
-    requires { ⌜ (length (now choices) ≡ 16) × ((f : ℕ) → f < place .depth → getD trial f 255 < 255) ⌝ }
+    requires { ⌜ (length (now choices) ≡ 16) × (length (now trial) ≡ 16) × ((f : ℕ) → f < place .depth → getD (now trial) f 255 < 255) ⌝ }
     requires { ⌜ AllStarts (now rules) (now places) (now counts) ⌝ }
-    ensures { λ r. ⌜ triedOf (r .way) (r .trial) ≡ tried (record { sizes = now (sizes .entry); list = now (rules .entry) }) (now (choices .entry)) (place .feature) (place .option) (place .depth) (place .next) trial ⌝ }
+    ensures { λ r. ⌜ (length (now (trial .exit)) ≡ 16) × (triedOf r (now (trial .exit)) ≡ tried (record { sizes = now (sizes .entry); list = now (rules .entry) }) (now (choices .entry)) (place .feature) (place .option) (place .depth) (place .next) (now (trial .entry))) ⌝ }
 {
     let depth = place.depth;
     let option = place.option;
     let next = place.next;
     let i = place.feature as usize;
     let j = depth as usize;
-    let mut placed = trial;
-    placed[j] = next;
+    let before = trial[j];
+    trial[j] = next;
     let from = j * 64;
     let to = from + byte(counts[j]);
-    if !catalogue::passes(rules, j, &places[from..to], &placed) {
+    if !catalogue::passes(rules, j, &places[from..to], trial) {
+        trial[j] = before;
         return given_up(sizes, choices, i, option, depth, next, trial);
     }
     if j + 1 == sizes.len() {
-        return Attempt {
-            way: Way::Build,
-            trial: placed,
-        };
+        return Way::Build;
     }
     let first = first_candidate(sizes, choices, i, option, j + 1);
-    Attempt {
-        way: Way::GoOn {
-            depth: depth + 1,
-            next: first,
-        },
-        trial: placed,
+    Way::GoOn {
+        depth: depth + 1,
+        next: first,
     }
 }
 
@@ -168,66 +172,57 @@ fn given_up(
     option: u8,
     depth: u8,
     v: u8,
-    trial: [u8; 16],
-) -> Attempt
+    trial: &mut [u8; 16],
+) -> Way
     requires { ⌜ (length (now choices) ≡ 16) × (length (now sizes) ≤ 16) × (depth < length (now sizes)) × (v < 255) ⌝ }
-    requires { ⌜ ((f : ℕ) → f < depth → getD trial f 255 < 255) ⌝ }
-    ensures { λ r. ⌜ triedOf (r .way) (r .trial) ≡ givenUp (now (sizes .entry)) (now (choices .entry)) i option depth v trial ⌝ }
+    requires { ⌜ (length (now trial) ≡ 16) × ((f : ℕ) → f < depth → getD (now trial) f 255 < 255) ⌝ }
+    ensures { λ r. ⌜ (length (now (trial .exit)) ≡ 16) × (triedOf r (now (trial .exit)) ≡ givenUp (now (sizes .entry)) (now (choices .entry)) i option depth v (now (trial .entry))) ⌝ }
 {
-    let mut placed = trial;
     let mut j = depth;
     let mut given = v;
     loop {
         match next_candidate(sizes, choices, i, option, j as usize, given) {
             Next::Candidate(next) => {
-                return Attempt {
-                    way: Way::GoOn { depth: j, next },
-                    trial: placed,
-                };
+                return Way::GoOn { depth: j, next };
             }
             Next::Nothing => {}
         }
         if j == 0 {
-            return Attempt {
-                way: Way::Exhausted,
-                trial: placed,
-            };
+            return Way::Exhausted;
         }
         j -= 1;
         let at = j as usize;
-        given = placed[at];
-        placed[at] = 255;
+        given = trial[at];
+        trial[at] = 255;
     }
 }
 
 // The example written into the share, the bit set in the mask.
-fn with_example(seat: Seat, share: &mut [u8], feature: u8, option: u8, example: &[u8; 16]) -> Seat
-    requires { ⌜ (feature < 16) × (option < 16) × (length (now share) ≡ 4096) × (length (now example) ≡ 16) ⌝ }
-    ensures { λ r. ⌜ record { seat = r; share = now (share .exit) } ≡ withExample feature option (now (example .entry)) (record { seat = seat; share = now (share .entry) }) ⌝ }
+fn with_example(
+    masks: &mut [u16; 16],
+    share: &mut [u8],
+    feature: u8,
+    option: u8,
+    example: &[u8; 16],
+)
+    requires { ⌜ (feature < 16) × (option < 16) × (length (now masks) ≡ 16) × (length (now share) ≡ 4096) × (length (now example) ≡ 16) ⌝ }
+    ensures { λ _. ⌜ (now (masks .exit) ≡ set (now (masks .entry)) feature (withBit (getD (now (masks .entry)) feature 0) option)) × (now (share .exit) ≡ put (now (share .entry)) (examplePlace feature option) (now (example .entry))) ⌝ }
 {
     let i = feature as usize;
     let a = option as usize;
     write_example(share, i * 256 + a * 16, example);
-    let mut found = seat;
-    let mask = found.masks[i];
-    found.masks[i] = mask | (1u16 << option);
-    found
+    let mask = masks[i];
+    masks[i] = mask | (1u16 << option);
 }
 
 // A pair ends, and the next starts in the same step; after the last the seat is ready.
-fn pair_ended(seat: Seat, sizes: &[u8], feature: u8, option: u8) -> Seat
-    requires { ⌜ (length (now sizes) ≤ 16) × (feature < length (now sizes)) × (option < 16) × (1 ≤ getD (now sizes) 0 0) × (length (seat .choices) ≡ 16) ⌝ }
-    ensures { λ r. ⌜ r ≡ record { state = afterPair (now (sizes .entry)) (seat .choices) feature option; choices = seat .choices; masks = seat .masks; trial = nothing16 } ⌝ }
+fn pair_ended(trial: &mut [u8; 16], sizes: &[u8], choices: &[u8], feature: u8, option: u8) -> State
+    requires { ⌜ (length (now sizes) ≤ 16) × (feature < length (now sizes)) × (option < 16) × (length (now choices) ≡ 16) × (1 ≤ getD (now sizes) 0 0) ⌝ }
+    requires { ⌜ length (now trial) ≡ 16 ⌝ }
+    ensures { λ r. ⌜ (r ≡ afterPair (now (sizes .entry)) (now (choices .entry)) feature option) × (now (trial .exit) ≡ nothing16) ⌝ }
 {
-    let choices = seat.choices;
-    let masks = seat.masks;
-    let state = after_pair(sizes, &choices, feature, option);
-    Seat {
-        state,
-        choices,
-        masks,
-        trial: [255u8; 16],
-    }
+    empty(trial);
+    after_pair(sizes, choices, feature, option)
 }
 
 fn after_pair(sizes: &[u8], choices: &[u8], feature: u8, option: u8) -> State

@@ -1,40 +1,63 @@
--- The row matches the options when what is left of it matches what is left of them, as long as all before are equal.
+-- The row matches when what is left of it matches the options at what is left of the features, as long as all before are
+-- equal.
 use Prim.Native.Nat.{_≤_, _-_}
 use mathlib.Core.Path.{_≡_, sym, _∙_}
 use native.Mathlib.Omega.{arith}
 use lib.ListN.{length, drop}
-use Rattle.catalogue.specs.Rule.{matches}
+use Rattle.catalogue.specs.Rule.{matches, optionsAt}
 use Rattle.catalogue.proofs.PlacedSteps.{matches-step, matches-stop, matches-end}
 use borrow.Author.Needs.{needs}
 use Rattle.catalogue.proofs.placed.row_matches.Statement.{statement}
 use Rattle.catalogue.proofs.placed.row_matches.Tie as tie
 
 abbrev Inv-loop : tie.InvT-loop
-Inv-loop row options i₀ i = (i ≤ length options) × (matches (drop i row) (drop i options) ≡ matches row options)
+Inv-loop row first features placed i₀ i =
+    (i ≤ length features)
+    × (matches (drop i row) (optionsAt placed (drop i features)) ≡ matches row (optionsAt placed features))
 
 abbrev μ-loop : tie.MeasureT-loop
-μ-loop row options i₀ i = length options - i
-
-loop-holds : tie.Need-loop-holds Inv-loop μ-loop
-loop-holds c = search needs
-
-mul-if1 : tie.Need-mul-if1 Inv-loop μ-loop
-mul-if1 c = search needs
+μ-loop row first features placed i₀ i = length features - i
 
 shared-slice-read-if1 : tie.Need-shared-slice-read-if1 Inv-loop μ-loop
 shared-slice-read-if1 c = search needs
 
-mul-if1-2 : tie.Need-mul-if1-2 Inv-loop μ-loop
-mul-if1-2 c = search needs
-
-shared-slice-read-if1-2 : tie.Need-shared-slice-read-if1-2 Inv-loop μ-loop
-shared-slice-read-if1-2 c = search needs
-
 returns : tie.Need-returns Inv-loop μ-loop
 returns c =
-    let a = c .before .before .before .before .before .args in
-    let l = c .before .before .before .before .loop in
-    sym (matches-stop (a .row .now) (a .options .now) (l .i) (omega arith) (omega arith) (c .if1 .taken)) ∙ l .inv .1
+    let start = c .before .before .before .before .before in
+    let a = start .args in
+    sym (matches-stop (a .row .now) (a .features .now) (a .placed .now) 0 (omega (arith, start .pre)) (omega (arith, start .pre)) (λ e. c .if1 .taken (e ∙ sym (start .pre .2))))
+
+loop-holds : tie.Need-loop-holds Inv-loop μ-loop
+loop-holds c =
+    let start = c .before .before .before .before .before in
+    let a = start .args in
+    (start .pre .1, sym (matches-step (a .row .now) (a .features .now) (a .placed .now) 0 (omega (arith, start .pre)) (omega (arith, start .pre)) (c .if1 .left ∙ start .pre .2)))
+
+mul-if2 : tie.Need-mul-if2 Inv-loop μ-loop
+mul-if2 c = search needs
+
+shared-slice-read-if2 : tie.Need-shared-slice-read-if2 Inv-loop μ-loop
+shared-slice-read-if2 c = search needs
+
+mul-wide : tie.Need-mul-wide Inv-loop μ-loop
+mul-wide c = search needs
+
+shared-slice-read-wide : tie.Need-shared-slice-read-wide Inv-loop μ-loop
+shared-slice-read-wide c = search needs
+
+wide-requires : tie.Need-wide-requires Inv-loop μ-loop
+wide-requires c κs = search needs
+
+option-at-requires : tie.Need-option-at-requires Inv-loop μ-loop
+option-at-requires c κs = search needs
+
+returns-2 : tie.Need-returns-2 Inv-loop μ-loop
+returns-2 c =
+    let start = c .before .before .before .before .before .before .before .before .before .before .before .before in
+    let a = start .args in
+    let l = c .before .before .before .before .before .before .loop in
+    let other = rw (c .before .option-at .ensures, c .before .before .wide .ensures .0) at (c .if2 .taken) in
+    sym (matches-stop (a .row .now) (a .features .now) (a .placed .now) (l .i) (omega (arith, start .pre)) (omega arith) other) ∙ l .inv .1
 
 add-i : tie.Need-add-i Inv-loop μ-loop
 add-i c = search needs
@@ -44,15 +67,18 @@ loop-less c = search needs
 
 loop-again : tie.Need-loop-again Inv-loop μ-loop
 loop-again c =
-    let a = c .before .before .before .before .before .args in
-    let l = c .before .before .before .before .loop in
-    (omega arith, sym (matches-step (a .row .now) (a .options .now) (l .i) (omega arith) (omega arith) (c .if1 .left)) ∙ l .inv .1)
+    let start = c .before .before .before .before .before .before .before .before .before .before .before .before in
+    let a = start .args in
+    let l = c .before .before .before .before .before .before .loop in
+    let same = rw (c .before .option-at .ensures, c .before .before .wide .ensures .0) at (c .if2 .left) in
+    (omega arith, sym (matches-step (a .row .now) (a .features .now) (a .placed .now) (l .i) (omega (arith, start .pre)) (omega arith) same) ∙ l .inv .1)
 
-returns-2 : tie.Need-returns-2 Inv-loop μ-loop
-returns-2 c =
-    let a = c .before .before .args in
+returns-3 : tie.Need-returns-3 Inv-loop μ-loop
+returns-3 c =
+    let start = c .before .before .before .before .before .before .before in
+    let a = start .args in
     let l = c .before .loop in
-    sym (matches-end (a .row .now) (a .options .now) (l .i) (omega arith) (omega arith)) ∙ l .inv .1
+    sym (matches-end (a .row .now) (a .features .now) (a .placed .now) (l .i) (omega (arith, start .pre)) (omega arith)) ∙ l .inv .1
 
 pub row-matches-spec : {M : Type 1} → statement M
 row-matches-spec =
@@ -60,13 +86,17 @@ row-matches-spec =
     (tie.spec
     Inv-loop
     μ-loop
-    loop-holds
-    mul-if1
     shared-slice-read-if1
-    mul-if1-2
-    shared-slice-read-if1-2
     returns
+    loop-holds
+    mul-if2
+    shared-slice-read-if2
+    mul-wide
+    shared-slice-read-wide
+    wide-requires
+    option-at-requires
+    returns-2
     add-i
     loop-less
     loop-again
-    returns-2)
+    returns-3)

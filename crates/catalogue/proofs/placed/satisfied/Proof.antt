@@ -4,7 +4,6 @@ use Prim.Native.Nat.{_+_, _-_, _*_, _≤_}
 use mathlib.Core.Path.{_≡_, _∙_, ap₂}
 use native.Mathlib.Omega.{arith}
 use lib.ListN.{length, take, drop, length-take, length-drop}
-use lib.Seq.{length-take-le}
 use Rattle.catalogue.proofs.WholeRule.{Whole, whole, satisfied-by-parts}
 use borrow.Author.Needs.{needs}
 use Rattle.catalogue.proofs.placed.satisfied.Statement.{statement}
@@ -40,18 +39,6 @@ mul-end c = omega (arith, room c)
 add-end : tie.Need-add-end
 add-end c = omega (arith, room c)
 
-sub-options-at : tie.Need-sub-options-at
-sub-options-at c = search needs
-
-part-options-at-start : tie.Need-part-options-at-start
-part-options-at-start c = search needs
-
-part-options-at-end : tie.Need-part-options-at-end
-part-options-at-end c = omega (arith, room c)
-
-options-at-requires : tie.Need-options-at-requires
-options-at-requires c κs = simp length-take (omega (arith, whole-list (c .before .before .before .before .before .before .before) .arity-high))
-
 mul-some-row : tie.Need-mul-some-row
 mul-some-row c = search needs
 
@@ -62,37 +49,43 @@ part-some-row-start : tie.Need-part-some-row-start
 part-some-row-start c = search needs
 
 part-some-row-end : tie.Need-part-some-row-end
-part-some-row-end c = omega (arith, room (c .before .before))
+part-some-row-end c = omega (arith, room c)
 
-array-share-prefix-options : tie.Need-array-share-prefix-options
-array-share-prefix-options c = omega (arith, whole-list (c .before .before .before .before .before .before .before .before .before) .arity-high)
+sub-some-row-2 : tie.Need-sub-some-row-2
+sub-some-row-2 c = search needs
 
-slice-aggregate-some-row : tie.Need-slice-aggregate-some-row
-slice-aggregate-some-row c = simp length-take (omega (arith, whole-list (c .before .before .before .before .before .before .before .before .before .before) .arity-high))
+part-some-row-start-2 : tie.Need-part-some-row-start-2
+part-some-row-start-2 c = search needs
+
+part-some-row-end-2 : tie.Need-part-some-row-end-2
+part-some-row-end-2 c = omega (arith, room (c .before))
+
+-- the part that is lent as the features has as many numbers as the arity says
+all-features : (c : tie.After-wide2)
+    → length (take (2 + c .before .before .wide .result - 2) (drop 2 (c .before .before .before .before .before .before .args .list .now))) ≡ c .before .before .wide .result
+all-features c =
+    let k = c .before .before .wide .result in
+    let span : 2 + k - 2 ≡ k = omega arith in
+    rw span (simp (length-take, length-drop) (omega (arith, room c)))
 
 some-row-requires : tie.Need-some-row-requires
 some-row-requires c κs =
-    let k = c .before .before .before .before .before .before .wide .result in
-    let options : length (take k (c .before .before .options-at .result)) ≡ k =
-    length-take-le _ _ (omega (arith, whole-list (c .before .before .before .before .before .before .before .before .before .before) .arity-high)) in
-    rw options (simp (length-take, length-drop) (omega (arith, room (c .before .before .before .before))))
+    let read = c .before .before in
+    let low = whole-list (c .before .before .before .before .before .before .before .before) .arity-low in
+    rw (all-features read)
+    (simp (length-take, length-drop) (omega (arith, room read)), omega (arith, low, read .before .before .wide .ensures .0))
 
 returns : tie.Need-returns
 returns c =
-    let start = c .before .before .before .before .before .before .before .before .before .before .before in
-    let list = start .args .list .now in
-    let options = c .before .before .before .options-at .result in
-    let k = c .before .before .before .before .before .before .before .wide .result in
-    let m = c .before .before .before .before .before .wide2 .result in
-    let fits = room (c .before .before .before .before .before) in
+    let read = c .before .before .before in
+    let start = c .before .before .before .before .before .before .before .before .before in
+    let k = read .before .before .wide .result in
+    let m = read .wide2 .result in
     let features-span : 2 + k - 2 ≡ k = omega arith in
     let rows-span : 2 + k + k * m - (2 + k) ≡ k * m = omega arith in
-    let all-features : length (take k (drop 2 list)) ≡ k = simp (length-take, length-drop) (omega arith) in
-    let all-options : length (take k options) ≡ k = length-take-le _ _ (omega (arith, whole-list start .arity-high)) in
-    let k-read = c .before .before .before .before .before .before .before .wide .ensures .0 in
-    let m-read = c .before .before .before .before .before .wide2 .ensures .0 in
-    let found = rw (features-span, all-features, k-read) at (c .before .before .before .options-at .ensures .1) in
-    c .some-row .ensures ∙ rw (all-options, rows-span, k-read, m-read) (satisfied-by-parts list (start .args .placed .now) options found)
+    c .some-row .ensures
+    ∙ rw (all-features read, features-span, rows-span, read .before .before .wide .ensures .0, read .wide2 .ensures .0)
+    (satisfied-by-parts (start .args .list .now) (start .args .placed .now))
 
 pub satisfied-spec : {M : Type 1} → statement M
 satisfied-spec =
@@ -105,15 +98,12 @@ satisfied-spec =
     add-body
     mul-end
     add-end
-    sub-options-at
-    part-options-at-start
-    part-options-at-end
-    options-at-requires
     mul-some-row
     sub-some-row
     part-some-row-start
     part-some-row-end
-    array-share-prefix-options
-    slice-aggregate-some-row
+    sub-some-row-2
+    part-some-row-start-2
+    part-some-row-end-2
     some-row-requires
     returns)

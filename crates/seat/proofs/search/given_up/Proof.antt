@@ -16,15 +16,15 @@ use Rattle.seat.proofs.search.given_up.Statement.{statement}
 use Rattle.seat.proofs.search.given_up.Tie as tie
 
 abbrev Inv-loop : tie.InvT-loop
-Inv-loop sizes choices i option depth v placed₀ j₀ given₀ placed j given =
+Inv-loop sizes choices i option depth v trial₀ j₀ given₀ trial j given =
     (j ≤ depth)
-    × (length placed ≡ 16)
+    × (length trial ≡ 16)
     × (given < 255)
-    × ((f : ℕ) → f < j → getD placed f 255 < 255)
-    × (givenUp sizes choices i option j given placed ≡ givenUp sizes choices i option depth v placed₀)
+    × ((f : ℕ) → f < j → getD trial f 255 < 255)
+    × (givenUp sizes choices i option j given trial ≡ givenUp sizes choices i option depth v trial₀)
 
 abbrev μ-loop : tie.MeasureT-loop
-μ-loop sizes choices i option depth v placed₀ j₀ given₀ placed j given = j
+μ-loop sizes choices i option depth v trial₀ j₀ given₀ trial j given = j
 
 loop-holds : tie.Need-loop-holds Inv-loop μ-loop
 loop-holds c = search needs
@@ -43,7 +43,7 @@ returns c =
     let a = c .before .before .before .before .before .before .before .args in
     let l = c .before .before .before .before .loop in
     let found = sym (c .before .before .before .next-candidate .ensures) ∙ ap nextOf (c .before .next .given .1) in
-    sym (goes-on (a .sizes .now) (a .choices .now) (a .i) (a .option) (l .j) (l .given) (l .placed) _ found) ∙ l .inv .4
+    (l .inv .1, sym (goes-on (a .sizes .now) (a .choices .now) (a .i) (a .option) (l .j) (l .given) (l .trial) _ found) ∙ l .inv .4)
 
 enum-told : tie.Need-enum-told Inv-loop μ-loop
 enum-told c = search needs
@@ -60,7 +60,7 @@ returns-2 : tie.Need-returns-2 Inv-loop μ-loop
 returns-2 c =
     let a = c .before .before .before .before .before .before .before .args in
     let l = c .before .before .before .before .loop in
-    sym (ends (a .sizes .now) (a .choices .now) (a .i) (a .option) (l .j) (l .given) (l .placed) (none-left (c .before)) (c .if1 .taken)) ∙ l .inv .4
+    (l .inv .1, sym (ends (a .sizes .now) (a .choices .now) (a .i) (a .option) (l .j) (l .given) (l .trial) (none-left (c .before)) (c .if1 .taken)) ∙ l .inv .4)
 
 sub-j : tie.Need-sub-j Inv-loop μ-loop
 sub-j c = search needs
@@ -68,26 +68,26 @@ sub-j c = search needs
 cast-at : tie.Need-cast-at Inv-loop μ-loop
 cast-at c = search needs
 
-array-read-given : tie.Need-array-read-given Inv-loop μ-loop
-array-read-given c = search needs
+element-copy-out-given : tie.Need-element-copy-out-given Inv-loop μ-loop
+element-copy-out-given c = search needs
 
-array-write-placed : tie.Need-array-write-placed Inv-loop μ-loop
-array-write-placed c = search needs
+element-write-trial : tie.Need-element-write-trial Inv-loop μ-loop
+element-write-trial c = search needs
 
 loop-less : tie.Need-loop-less Inv-loop μ-loop
 loop-less c = search needs
 
 loop-again : tie.Need-loop-again Inv-loop μ-loop
 loop-again c =
-    let a = c .before .before .before .before .before .before .before .args in
-    let l = c .before .before .before .before .loop in
-    let before : l .j - 1 < length (l .placed) = omega arith in
-    let read = getD-within (l .placed) (l .j - 1) 0 255 before in
-    let back = goes-back (a .sizes .now) (a .choices .now) (a .i) (a .option) (l .j) (l .given) (l .placed) (l .j - 1) (none-left (c .before)) (omega arith) in (
+    let a = c .before .before .before .before .before .before .before .before .args in
+    let l = c .before .before .before .before .before .loop in
+    let before : l .j - 1 < length (l .trial) = omega arith in
+    let read = getD-within (l .trial) (l .j - 1) 0 255 before in
+    let back = goes-back (a .sizes .now) (a .choices .now) (a .i) (a .option) (l .j) (l .given) (l .trial) (l .j - 1) (none-left (c .before .before)) (omega arith) in (
       omega arith,
       rw length-set (l .inv .1),
       rw read (l .inv .3 (l .j - 1) (omega arith)),
-      λ (f : ℕ) (h : f < l .j - 1). rw (getD-set-other (l .placed) (l .j - 1) f 255 255 (omega arith)) (l .inv .3 f (omega arith)),
+      λ (f : ℕ) (h : f < l .j - 1). rw (getD-set-other (l .trial) (l .j - 1) f 255 255 (omega arith)) (l .inv .3 f (omega arith)),
       rw read (sym back ∙ l .inv .4),
     )
 
@@ -106,7 +106,7 @@ given-up-spec =
     returns-2
     sub-j
     cast-at
-    array-read-given
-    array-write-placed
+    element-copy-out-given
+    element-write-trial
     loop-less
     loop-again)

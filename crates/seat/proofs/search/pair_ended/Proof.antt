@@ -1,16 +1,16 @@
--- The state is that after the pair, nothing is placed, and the rest stays.
+-- The state is that after the pair, and nothing is placed.
 use borrow.Author.Needs.{needs}
 use Rattle.seat.proofs.search.pair_ended.Statement.{statement}
 use Rattle.seat.proofs.search.pair_ended.Tie as tie
 
-slice-aggregate-after-pair : tie.Need-slice-aggregate-after-pair
-slice-aggregate-after-pair c = search needs
+empty-requires : tie.Need-empty-requires
+empty-requires c κs = search needs
 
 after-pair-requires : tie.Need-after-pair-requires
 after-pair-requires c κs = search needs
 
 returns : tie.Need-returns
-returns c = rw (c .after-pair .ensures)
+returns c = (c .after-pair .ensures, rw (c .before .before .before .before .before .pre .1) at (c .before .empty .ensures))
 
 pub pair-ended-spec : {M : Type 1} → statement M
-pair-ended-spec = tie.close (tie.spec slice-aggregate-after-pair after-pair-requires returns)
+pair-ended-spec = tie.close (tie.spec empty-requires after-pair-requires returns)

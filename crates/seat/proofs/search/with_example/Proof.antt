@@ -1,6 +1,5 @@
 -- The share is as `write_example` leaves it, and the mask has the bit set: a shift by less than 16 loses nothing.
 use lib.ListN.{getD}
-use Rattle.seat.specs.Clinic.{withExample}
 use Rattle.seat.proofs.Bits.{or-shifted-bit}
 use borrow.Author.Needs.{needs}
 use Rattle.seat.proofs.search.with_example.Statement.{statement}
@@ -24,24 +23,23 @@ mul-mask c = search needs
 element-copy-out-mask : tie.Need-element-copy-out-mask
 element-copy-out-mask c = search needs
 
-shl-found : tie.Need-shl-found
-shl-found c = search needs
+shl-masks : tie.Need-shl-masks
+shl-masks c = search needs
 
-mul-found : tie.Need-mul-found
-mul-found c = search needs
+mul-masks : tie.Need-mul-masks
+mul-masks c = search needs
 
-element-write-found : tie.Need-element-write-found
-element-write-found c = search needs
+element-write-masks : tie.Need-element-write-masks
+element-write-masks c = search needs
 
 same-length : tie.Need-same-length
 same-length c = search needs
 
 returns : tie.Need-returns
-unfolding withExample
 returns c =
     let s = c .before .before .before .before .before .before in
-    let mask = getD (s .args .seat .masks) (s .args .feature) 0 in
-    rw (or-shifted-bit mask (s .args .option) (s .pre .1), c .before .before .before .write-example .ensures)
+    let mask = getD (s .args .masks .now) (s .args .feature) 0 in
+    (rw (or-shifted-bit mask (s .args .option) (s .pre .1)), c .before .before .before .write-example .ensures)
 
 pub with-example-spec : {M : Type 1} → statement M
 with-example-spec =
@@ -53,8 +51,8 @@ with-example-spec =
     write-example-requires
     mul-mask
     element-copy-out-mask
-    shl-found
-    mul-found
-    element-write-found
+    shl-masks
+    mul-masks
+    element-write-masks
     same-length
     returns)

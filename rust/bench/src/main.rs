@@ -1,0 +1,153 @@
+//! The desk through its door against the written search in plain Rust, in one run of one x86-64 program.
+//!
+//! `tools/bench` builds and runs it; with `--write` it also writes the tables between the marks of `docs/BENCH.md`, and
+//! `docs/bench.svg`.
+
+mod clock;
+mod door;
+mod families;
+mod measure;
+mod plain;
+mod report;
+
+use families::{drawn, one_rule, pairs_of_features, trolley, Family};
+use report::{micros, millions, nanos_each, ratio, Table};
+
+/// The trolley, catalogues of 10 to 16 features with 3 to 8 options and 10 to 25 rules, and the longest rule lists.
+fn all_families() -> Vec<Family> {
+    let kinds = [
+        (10, 3, 10, 45),
+        (10, 8, 25, 45),
+        (11, 5, 18, 40),
+        (12, 4, 12, 50),
+        (13, 4, 20, 30),
+        (13, 4, 20, 60),
+        (14, 6, 20, 45),
+        (15, 7, 15, 30),
+        (16, 3, 25, 30),
+        (16, 3, 25, 60),
+        (16, 8, 10, 45),
+    ];
+    let mut families = vec![trolley()];
+    families.extend(kinds.iter().map(|&(features, size, rules, percent)| drawn(features, size, rules, percent, 1)));
+    families.push(one_rule(1364));
+    families.push(pairs_of_features(64));
+    families
+}
+
+/// Calls enough for some hundred thousand steps: of turns(65,535) where jobs are long, more where they are short.
+fn calls_for(family: &Family) -> u32 {
+    if family.sizes.len() < 10 {
+        500
+    } else {
+        3
+    }
+}
+
+fn speeds(families: &[Family]) -> (Table, Vec<(String, f64)>) {
+    let head = &["catalogue", "numbers", "desk, one seat", "plain", "ratio", "desk, eight seats", "plain", "ratio"];
+    let mut table = Table::new("Steps per second, in millions, by calls of turns(65,535)", head);
+    let mut bars = Vec::new();
+    for family in families {
+        let one = measure::turns(family, 1, 65535, calls_for(family));
+        let eight = measure::turns(family, 8, 65535, calls_for(family));
+        let mut cells = vec![family.name.clone(), family.rules.len().to_string()];
+        for pair in [one, eight] {
+            cells.extend([millions(pair.desk_rate()), millions(pair.plain_rate()), ratio(pair.ratio())]);
+        }
+        table.row(cells);
+        bars.push((family.name.clone(), one.ratio()));
+    }
+    (table, bars)
+}
+
+fn waits(families: &[Family]) -> Table {
+    let head = &["catalogue", "steps", "desk", "plain", "ratio"];
+    let mut table = Table::new("From enter to ready, in microseconds, one seat (jobs of at most a million steps)", head);
+    for family in families {
+        if let Some(pair) = measure::enter_to_ready(family, 1_000_000) {
+            let times = [micros(pair.desk), micros(pair.plain), ratio(pair.ratio())];
+            table.row([vec![family.name.clone(), pair.steps.to_string()], times.to_vec()].concat());
+        }
+    }
+    table
+}
+
+fn call_costs() -> Table {
+    let head = &["catalogue", "numbers", "turns(0)", "turns(1)", "options", "enter, refused", "turns(4,096)", "turns(0) in it, %"];
+    let mut table = Table::new("What a call costs, in microseconds: the checks, and the rules found once a call", head);
+    for family in [trolley(), one_rule(40), pairs_of_features(8), drawn(16, 3, 25, 28, 1), one_rule(1364), pairs_of_features(64)] {
+        let calls = measure::calls(&family);
+        let share = 100.0 * calls.none.as_secs_f64() / calls.many.as_secs_f64();
+        let mut cells = vec![family.name.clone(), family.rules.len().to_string()];
+        cells.extend([calls.none, calls.one, calls.options, calls.enter, calls.many].map(micros));
+        cells.push(format!("{:.1}", share));
+        table.row(cells);
+    }
+    table
+}
+
+fn growth() -> Table {
+    let head = &["grows", "at", "desk", "plain", "ratio"];
+    let mut table = Table::new("Nanoseconds a step, as one thing grows", head);
+    let mut line = |grows: &str, at: usize, family: &Family, w: u16, calls: u32| {
+        let pair = measure::turns(family, 1, w, calls);
+        let times = [nanos_each(pair.desk, pair.steps), nanos_each(pair.plain, pair.steps), ratio(pair.ratio())];
+        table.row([vec![grows.to_string(), at.to_string()], times.to_vec()].concat());
+    };
+    for rows in [10, 40, 160, 640, 1364] {
+        line("rows of one rule", rows, &one_rule(rows), 65535, 3);
+    }
+    for rules in [4, 16, 64] {
+        line("rules of 62 rows", rules, &pairs_of_features(rules), 65535, 2);
+    }
+    for features in [6, 8, 10, 12, 14, 16] {
+        line("features of 4 options, 12 rules", features, &drawn(features, 4, 12, 45, 1), 65535, 3);
+    }
+    for (w, calls) in [(1, 3000), (16, 2000), (256, 300), (4096, 30), (65535, 3)] {
+        line("w, on 16 features of 3", w.into(), &drawn(16, 3, 25, 45, 1), w, calls);
+    }
+    table
+}
+
+fn threads() -> Table {
+    let mut table = Table::new("Several desks on several threads, millions of steps per second together, by the wall clock", &["threads", "steps"]);
+    let most = std::thread::available_parallelism().map_or(1, |n| n.get()).min(8);
+    let family = drawn(16, 3, 25, 45, 1);
+    for threads in (1..=most).filter(|n| n.is_power_of_two()) {
+        table.row(vec![threads.to_string(), millions(measure::on_threads(&family, threads, 6))]);
+    }
+    table
+}
+
+/// What stands between the marks of the page is replaced.
+fn write_page(tables: &str) -> std::io::Result<()> {
+    let page = std::fs::read_to_string("docs/BENCH.md")?;
+    let (begin, end) = ("<!-- measured -->\n", "<!-- end -->");
+    let from = page.find(begin).expect("no mark where the tables begin") + begin.len();
+    let to = page.find(end).expect("no mark where the tables end");
+    std::fs::write("docs/BENCH.md", format!("{}\n{}\n{}", &page[..from], tables.trim_end(), &page[to..]))
+}
+
+fn main() -> std::io::Result<()> {
+    let write = std::env::args().any(|word| word == "--write");
+    let families = all_families();
+    for family in &families {
+        measure::same_steps(family, 1);
+        measure::same_steps(family, 8);
+    }
+    let processor = report::processor();
+    let mut tables = format!("Processor: {}.\n", processor);
+    let (speeds, bars) = speeds(&families);
+    for table in [speeds, waits(&families), call_costs(), growth(), threads()] {
+        tables.push('\n');
+        tables.push_str(&table.markdown());
+    }
+    print!("{}", tables);
+    if write {
+        write_page(&tables)?;
+        let title = format!("Steps of the desk for one of plain Rust, one seat at work. {}", processor);
+        std::fs::write("docs/bench.svg", report::plot(&title, &bars))?;
+    }
+    Ok(())
+}
