@@ -1,6 +1,6 @@
 -- Refusals, OptionsLeft, Waiting, SearchState, TwoRuns, InARun, LastJob, Frame, Posting, TurnsAnswered: the statements of those names in specs/, proved.
 -- SoundMoments: every moment of a run is sound. RefusedOpening: after a refused opening no seat ever opens.
--- OnTheTrolley: each statement says something of the trolley.
+-- OnTheTrolley, RunsOnTheTrolley: each statement says something of the trolley.
 pub mod Refusals
 pub mod SoundMoments
 pub mod RefusedOpening
@@ -19,3 +19,4 @@ pub mod LastJob
 pub mod Posting
 pub mod TurnsAnswered
 pub mod OnTheTrolley
+pub mod RunsOnTheTrolley

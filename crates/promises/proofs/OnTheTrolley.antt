@@ -45,10 +45,10 @@ use Rattle.promises.proofs.LastJob.{last-job as proved-last-job}
 use Rattle.promises.proofs.Frame.{frame as proved-frame}
 use Rattle.promises.proofs.SoundMoments.{sound-moment}
 
-pub board : List ℕ
+unfoldable pub board : List ℕ
 board = replicate 32768 7
 
-opens : Opened trolley board
+pub opens : Opened trolley board
 unfolding board computing
 opens = refl
 
@@ -58,7 +58,7 @@ unfolding board computing moment
 refusals demand = demand .by-the-table trolley (enter 9) (moment trolley board []) 30 .1 (next (next (next (this (λ e. omega arith)))))
 
 -- Demand 2: 100 is a build, so that option 1 of feature 0 is left once seat 0 is ready.
-pub ready : List Call
+unfoldable pub ready : List Call
 ready = enter 0 ∷ turns 39 ∷ []
 
 build-100 : List ℕ
@@ -98,14 +98,14 @@ options-left demand =
     rw (shown .options-answer) (shown .left-exactly 1 .1 (build-100, is-build))
 
 -- Demand 3: of eight seats at work the last is ready after 8 × 39 turns.
-pub seven : List Call
+unfoldable pub seven : List Call
 seven = enter 0 ∷ enter 1 ∷ enter 2 ∷ enter 3 ∷ enter 4 ∷ enter 5 ∷ enter 6 ∷ []
 
 all-39 : (K : ℕ) → ReadyAfter trolley (posted (trolley .sizes) nothing16) K → K ≡ 39
 unfolding computing
 all-39 K takes = ready-once trolley (posted (trolley .sizes) nothing16) K 39 takes (job-ready-after trolley refl nothing16)
 
-takes-39 : (K : ℕ) → ReadyAfter trolley (clinicAt (moment trolley board (seven ++ enter 7 ∷ [])) 7) K → K ≡ 39
+pub takes-39 : (K : ℕ) → ReadyAfter trolley (clinicAt (moment trolley board (seven ++ enter 7 ∷ [])) 7) K → K ≡ 39
 unfolding board seven computing moment
 takes-39 K takes = all-39 K takes
 
@@ -137,7 +137,7 @@ unfolding board begun beside computing moment
 two-runs demand = demand trolley board board opens opens begun beside 3 (lit< tt) refl .1
 
 -- The chosen option alone is left.
-pub chosen : List Call
+unfoldable pub chosen : List Call
 chosen = ready ++ choose 0 2 0 ∷ turns 40 ∷ []
 
 choice-alone : EveryRun → (a : ℕ) → (hasBit (perform trolley (options 0 2) (moment trolley board chosen) .answer .mask) a ≡ true) ↔ (a ≡ 0)
