@@ -1,7 +1,7 @@
 //! The desk through its door against the written search in plain Rust, in one run of one x86-64 program.
 //!
 //! `tools/bench` builds and runs it; with `--write` it also writes the tables between the marks of `docs/BENCH.md`, and
-//! `docs/bench.svg`.
+//! `docs/bench.svg`; with `--ratios` it prints the ratios alone.
 
 mod clock;
 mod door;
@@ -129,12 +129,24 @@ fn write_page(tables: &str) -> std::io::Result<()> {
     std::fs::write("docs/BENCH.md", format!("{}\n{}\n{}", &page[..from], tables.trim_end(), &page[to..]))
 }
 
+/// A line for each catalogue, for a script to gather: its name, and the ratios with one seat and with eight.
+fn print_ratios(families: &[Family]) {
+    for family in families {
+        let ratios = [1, 8].map(|seats| ratio(measure::turns(family, seats, 65535, calls_for(family)).ratio()));
+        println!("{}\t{}\t{}", family.name, ratios[0], ratios[1]);
+    }
+}
+
 fn main() -> std::io::Result<()> {
-    let write = std::env::args().any(|word| word == "--write");
+    let asked = |word: &str| std::env::args().any(|given| given == word);
     let families = all_families();
     for family in &families {
         measure::same_steps(family, 1);
         measure::same_steps(family, 8);
+    }
+    if asked("--ratios") {
+        print_ratios(&families);
+        return Ok(());
     }
     let processor = report::processor();
     let mut tables = format!("Processor: {}.\n", processor);
@@ -144,7 +156,7 @@ fn main() -> std::io::Result<()> {
         tables.push_str(&table.markdown());
     }
     print!("{}", tables);
-    if write {
+    if asked("--write") {
         write_page(&tables)?;
         let title = format!("Steps of the desk for one of plain Rust, one seat at work. {}", processor);
         std::fs::write("docs/bench.svg", report::plot(&title, &bars))?;
