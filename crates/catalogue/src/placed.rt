@@ -4,7 +4,7 @@ use crate::numbers::wide;
 ghost use mathlib.Core.Path.{_≡_};
 ghost use mathlib.Core.Bool.{true};
 ghost use Prim.Native.Nat.{_≤_, _*_};
-ghost use lib.ListN.{length, getD, take};
+ghost use lib.ListN.{length, getD, replicate};
 ghost use Rattle.catalogue.specs.Rule.{highest, matches, someRow, optionAt, optionsAt, satisfies, passes};
 ghost use Rattle.catalogue.specs.Catalogue.{rowsRead, ruleRead, rulesRead};
 ghost use Rattle.catalogue.specs.Starts.{wholeRule, wholeRules, startsAt, AllStarts};
@@ -26,28 +26,6 @@ pub fn passes(rules: &[u16], j: usize, starts: &[u16], placed: &[u8]) -> bool
     true
 }
 
-// Writes where the rules begin that are tested at feature j, in their order, and answers how many there are.
-fn starts_at(rules: &[u16], j: usize, into: &mut [u16]) -> usize
-    requires { ⌜ wholeRules 64 (now rules) ≡ true ⌝ }
-    requires { ⌜ (length (now rules) ≤ 8192) × (64 ≤ length (now into)) ⌝ }
-    ensures { λ r. ⌜ (r ≡ length (startsAt (now (rules .entry)) j)) × (r ≤ 64) × (take r (now (into .exit)) ≡ startsAt (now (rules .entry)) j) ⌝ }
-{
-    let mut count = 0usize;
-    let mut place = 0;
-    while place < rules.len() {
-        let rest = &rules[place..];
-        let k = wide(rest[0]);
-        let m = wide(rest[1]);
-        let body = 2 + k;
-        if highest(&rest[2..body]) == j {
-            into[count] = (place % 65536) as u16; // a place is below 8,192
-            count += 1;
-        }
-        place += body + k * m;
-    }
-    count
-}
-
 // Where the rules begin that are tested at each feature: 64 places a feature, of which `counts` are used.
 pub struct Starts {
     pub places: [u16; 1024],
@@ -60,15 +38,30 @@ pub fn starts_of(rules: &[u16]) -> Starts
 {
     let mut places = [0u16; 1024];
     let mut counts = [0u8; 16];
-    let mut j = 0usize;
-    while j < 16 {
-        let from = j * 64;
-        let to = from + 64;
-        let count = starts_at(rules, j, &mut places[from..to]);
-        counts[j] = (count % 256) as u8;
-        j += 1;
-    }
+    note_starts(rules, &mut places, &mut counts);
     Starts { places, counts }
+}
+
+// Notes each rule, in one walk over the list, at the places of its highest feature.
+fn note_starts(rules: &[u16], places: &mut [u16; 1024], counts: &mut [u8; 16])
+    requires { ⌜ (wholeRules 64 (now rules) ≡ true) × (length (now rules) ≤ 8192) ⌝ }
+    requires { ⌜ (length (now places) ≡ 1024) × (now counts ≡ replicate 16 0) ⌝ }
+    ensures { λ r. ⌜ AllStarts (now (rules .entry)) (now (places .exit)) (now (counts .exit)) ⌝ }
+{
+    let mut place = 0;
+    while place < rules.len() {
+        let rest = &rules[place..];
+        let k = wide(rest[0]);
+        let m = wide(rest[1]);
+        let body = 2 + k;
+        let feature = highest(&rest[2..body]);
+        if feature < 16 {
+            let count = counts[feature] as usize;
+            places[feature * 64 + count] = (place % 65536) as u16; // a place is below 8,192
+            counts[feature] = ((count + 1) % 256) as u8; // a count is at most 64
+        }
+        place += body + k * m;
+    }
 }
 
 // The highest-numbered of some features.

@@ -1,42 +1,41 @@
--- The places noted, followed by those of the rules that are left, are all of them; each rule lies whole in the list, so
--- that the walk goes from rule to rule.
+-- Of each feature, the places noted, followed by those of the rules that are left, are all of them; each rule lies whole in
+-- the list, so that the walk goes from rule to rule.
 use Prim.Native.Nat.{ℕ, _≤_, _<_, _+_, _-_, _*_, _%_}
-use mathlib.Core.Path.{_≡_, sym, ap, _∙_}
+use mathlib.Core.Path.{_≡_, refl, sym, ap}
 use mathlib.Core.Logic.{⊎-elim}
 use mathlib.Core.List.{List}
 use native.Mathlib.Omega.{arith}
-use lib.ListN.{length, take, drop, length-drop, length-set}
-use lib.Seq.{length-take-le}
+use lib.ListN.{length, take, drop, length-drop, getD}
 use Rattle.catalogue.specs.Rule.{highest}
 use Rattle.catalogue.specs.Catalogue.{arity, width, featuresRead}
 use Rattle.catalogue.proofs.Steps.{left-lent}
 use Rattle.catalogue.proofs.WholeRule.{Whole}
-use Rattle.catalogue.proofs.Starts.{Noted, whole-now, note, below-64, pass-over, all-noted}
+use Rattle.catalogue.proofs.AllStarts.{Noted, none-noted, whole-now, below-64, note, pass-over, all-noted}
 use borrow.Author.Needs.{needs}
-use Rattle.catalogue.proofs.placed.starts_at.Statement.{statement}
-use Rattle.catalogue.proofs.placed.starts_at.Tie as tie
+use Rattle.catalogue.proofs.placed.note_starts.Statement.{statement}
+use Rattle.catalogue.proofs.placed.note_starts.Tie as tie
 
 abbrev Inv-loop : tie.InvT-loop
-Inv-loop rules j into₀ count₀ place₀ into count place = Noted rules into j count place × (length into ≡ length into₀)
+Inv-loop rules places₀ counts₀ place₀ places counts place = Noted rules places counts place
 
 abbrev μ-loop : tie.MeasureT-loop
-μ-loop rules j into₀ count₀ place₀ into count place = length rules - place
+μ-loop rules places₀ counts₀ place₀ places counts place = length rules - place
 
 loop-holds : tie.Need-loop-holds Inv-loop μ-loop
-loop-holds c = search needs
+loop-holds c = let pre = c .before .pre in none-noted _ _ _ (pre .0 .0) (pre .1 .0) (pre .1 .1)
 
 abbrev rest-now : tie.In-loop Inv-loop μ-loop → List ℕ
-rest-now c = drop (c .before .loop .place) (c .before .before .before .before .args .rules .now)
+rest-now c = drop (c .before .loop .place) (c .before .before .before .args .rules .now)
 
-rest-length : (c : tie.In-loop Inv-loop μ-loop) → length (rest-now c) ≡ length (c .before .before .before .before .args .rules .now) - c .before .loop .place
-rest-length c = length-drop (c .before .loop .place) (c .before .before .before .before .args .rules .now)
+rest-length : (c : tie.In-loop Inv-loop μ-loop) → length (rest-now c) ≡ length (c .before .before .before .args .rules .now) - c .before .loop .place
+rest-length c = length-drop (c .before .loop .place) (c .before .before .before .args .rules .now)
 
 part-length : (c : tie.In-loop Inv-loop μ-loop)
-    → length (take (length (c .before .before .before .before .args .rules .now) - c .before .loop .place) (rest-now c)) ≡ length (rest-now c)
-part-length c = ap length (left-lent (c .before .before .before .before .args .rules .now) (c .before .loop .place))
+    → length (take (length (c .before .before .before .args .rules .now) - c .before .loop .place) (rest-now c)) ≡ length (rest-now c)
+part-length c = ap length (left-lent (c .before .before .before .args .rules .now) (c .before .loop .place))
 
 whole-here : (c : tie.In-loop Inv-loop μ-loop) → Whole (rest-now c)
-whole-here c = whole-now (c .before .loop .inv .0) (c .loop-test .taken)
+whole-here c = whole-now (c .before .loop .inv) (c .loop-test .taken)
 
 mul-rest : tie.Need-mul-rest Inv-loop μ-loop
 mul-rest c = search needs
@@ -93,22 +92,45 @@ highest-read c =
     let span : 2 + k - 2 ≡ k = omega arith in
     rw (span, left-lent, arity-read (c .before .before)) at (c .highest .ensures)
 
-cast-into : tie.Need-cast-into Inv-loop μ-loop
-cast-into c = search needs
+element-copy-out-count : tie.Need-element-copy-out-count Inv-loop μ-loop
+element-copy-out-count c = search needs
 
-mul-into : tie.Need-mul-into Inv-loop μ-loop
-mul-into c = search needs
+count-low : (c : tie.After-count Inv-loop μ-loop)
+    → getD (c .before .before .before .before .before .before .before .before .before .before .loop .counts) (c .before .before .highest .result) 0 < 64
+count-low c =
+    let turn = c .before .before .before .before .before .before .before .before .before in
+    below-64 (turn .before .loop .inv) (turn .loop-test .taken) (c .before .before .highest .result) (c .before .if1 .taken)
 
-slice-write-into : tie.Need-slice-write-into Inv-loop μ-loop
-slice-write-into c =
-    omega (arith, below-64 (c .before .before .before .before .before .before .before .before .before .loop .inv .0) (c .before .before .before .before .before .before .before .before .loop-test .taken))
+cast-count : tie.Need-cast-count Inv-loop μ-loop
+cast-count c = omega (arith, count-low c)
 
-add-count : tie.Need-add-count Inv-loop μ-loop
-add-count c = search needs
+cast-places : tie.Need-cast-places Inv-loop μ-loop
+cast-places c = search needs
+
+mul-places : tie.Need-mul-places Inv-loop μ-loop
+mul-places c = search needs
+
+add-places : tie.Need-add-places Inv-loop μ-loop
+add-places c = omega (arith, count-low c)
+
+mul-places-2 : tie.Need-mul-places-2 Inv-loop μ-loop
+mul-places-2 c = omega (arith, count-low c)
+
+element-write-places : tie.Need-element-write-places Inv-loop μ-loop
+element-write-places c = omega (arith, count-low c)
+
+add-counts : tie.Need-add-counts Inv-loop μ-loop
+add-counts c = omega (arith, count-low c)
+
+cast-counts : tie.Need-cast-counts Inv-loop μ-loop
+cast-counts c = search needs
+
+element-write-counts : tie.Need-element-write-counts Inv-loop μ-loop
+element-write-counts c = search needs
 
 next-place : (c : tie.Joined1 Inv-loop μ-loop)
     → c .before .before .before .before .before .before .before .before .before .loop .place + (2 + c .before .before .before .before .before .wide .result + c .before .before .before .before .before .wide .result * c .before .before .before .wide2 .result)
-    ≤ length (c .before .before .before .before .before .before .before .before .before .before .before .before .args .rules .now)
+    ≤ length (c .before .before .before .before .before .before .before .before .before .before .before .args .rules .now)
 next-place c =
     let turn = c .before .before .before .before .before .before .before .before in omega (arith, width-read (c .before .before .before), rest-length turn, whole-here turn .in-list)
 
@@ -126,28 +148,25 @@ loop-less c = search needs
 
 loop-again : tie.Need-loop-again Inv-loop μ-loop
 loop-again c =
-    let l = c .before .before .before .before .before .before .before .before .before .loop in
-    let test = c .before .before .before .before .before .before .before .before .loop-test .taken in
+    let turn = c .before .before .before .before .before .before .before .before in
+    let l = turn .before .loop in
+    let test = turn .loop-test .taken in
     let read = highest-read (c .before) in
     let next = width-read (c .before .before .before) in
     let small : l .place % 65536 ≡ l .place = omega arith in
-    let room : l .count < length (l .into) = omega (arith, below-64 (l .inv .0) test) in
     ⊎-elim
-    (λ w. (rw (w .1, w .2, small, next) (note (l .inv .0) test room (sym read ∙ w .0 .taken)), rw (w .1, length-set) (l .inv .1)))
-    (λ w. (rw (w .1, w .2, next) (pass-over (l .inv .0) test (λ e. w .0 .left (read ∙ e))), rw (w .1) (l .inv .1)))
+    (λ w.
+    let low = below-64 (l .inv) test (c .before .highest .result) (w .0 .taken) in
+    let fits : (getD (l .counts) (c .before .highest .result) 0 + 1) % 256 ≡ getD (l .counts) (c .before .highest .result) 0 + 1 = omega arith in
+    rw (w .2, w .3, small, fits, next) (note (l .inv) test (c .before .highest .result) (getD (l .counts) (c .before .highest .result) 0) (w .0 .taken) refl (sym read)))
+    (λ w. rw (w .1, w .2, next) (pass-over (l .inv) test (omega (arith, read, w .0 .left))))
     (c .if1 .came)
 
-same-length : tie.Need-same-length Inv-loop μ-loop
-same-length c = search needs
-
 returns : tie.Need-returns Inv-loop μ-loop
-returns c =
-    let l = c .before .loop in
-    let all = all-noted (l .inv .0) (c .loop-test .left) in
-    (sym (length-take-le (l .count) (l .into) (omega arith)) ∙ ap length all, omega arith, all)
+returns c = all-noted (c .before .loop .inv) (c .loop-test .left)
 
-pub starts-at-spec : {M : Type 1} → statement M
-starts-at-spec =
+pub note-starts-spec : {M : Type 1} → statement M
+note-starts-spec =
     tie.close
     (tie.spec
     Inv-loop
@@ -166,14 +185,19 @@ starts-at-spec =
     part-highest-start
     part-highest-end
     highest-requires
-    cast-into
-    mul-into
-    slice-write-into
-    add-count
+    element-copy-out-count
+    cast-count
+    cast-places
+    mul-places
+    add-places
+    mul-places-2
+    element-write-places
+    add-counts
+    cast-counts
+    element-write-counts
     mul-place
     add-place
     add-place-2
     loop-less
     loop-again
-    same-length
     returns)
