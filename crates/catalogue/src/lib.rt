@@ -8,6 +8,5 @@ mod numbers;
 mod placed;
 
 pub use faults::fault;
-pub use placed::Starts;
 pub use placed::passes;
 pub use placed::starts_of;

@@ -26,24 +26,9 @@ pub fn passes(rules: &[u16], j: usize, starts: &[u16], placed: &[u8]) -> bool
     true
 }
 
-// Where the rules begin that are tested at each feature: 64 places a feature, of which `counts` are used.
-pub struct Starts {
-    pub places: [u16; 1024],
-    pub counts: [u8; 16],
-}
-
-pub fn starts_of(rules: &[u16]) -> Starts
-    requires { ⌜ (wholeRules 64 (now rules) ≡ true) × (length (now rules) ≤ 8192) ⌝ }
-    ensures { λ r. ⌜ AllStarts (now (rules .entry)) (r .places) (r .counts) ⌝ }
-{
-    let mut places = [0u16; 1024];
-    let mut counts = [0u8; 16];
-    note_starts(rules, &mut places, &mut counts);
-    Starts { places, counts }
-}
-
-// Notes each rule, in one walk over the list, at the places of its highest feature.
-fn note_starts(rules: &[u16], places: &mut [u16; 1024], counts: &mut [u8; 16])
+// Notes where the rules begin that are tested at each feature, in one walk over the list: 64 places a feature, of which
+// `counts` are used. Both are lent, so that they are written where they are read.
+pub fn starts_of(rules: &[u16], places: &mut [u16; 1024], counts: &mut [u8; 16])
     requires { ⌜ (wholeRules 64 (now rules) ≡ true) × (length (now rules) ≤ 8192) ⌝ }
     requires { ⌜ (length (now places) ≡ 1024) × (now counts ≡ replicate 16 0) ⌝ }
     ensures { λ r. ⌜ AllStarts (now (rules .entry)) (now (places .exit)) (now (counts .exit)) ⌝ }

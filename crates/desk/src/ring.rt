@@ -48,9 +48,9 @@ fn make_turns(desk: Desk, board: &mut [u8], sizes: &[u8], rules: &[u16], w: u16)
     requires { ⌜ deskFits (record { sizes = now sizes; list = now rules }) desk ≡ true ⌝ }
     ensures { λ r. ⌜ TurnsTo (done (record { sizes = now (sizes .entry); list = now (rules .entry) }) (turns w) (record { desk = desk; board = now (board .entry) })) r (now (board .exit)) ⌝ }
 {
-    let starts = catalogue::starts_of(rules);
-    let places = starts.places;
-    let counts = starts.counts;
+    let mut places = [0u16; 1024];
+    let mut counts = [0u8; 16];
+    catalogue::starts_of(rules, &mut places, &mut counts);
     let mut seats = desk.seats;
     let mut next = desk.next;
     let mut working = seats_at_work(seats);

@@ -1,12 +1,12 @@
 -- Between two turns it holds what `Turning` says. The seat that the search finds is the one that the next turn serves; its
 -- share is lent to the step and comes back as the step leaves it, so the room is that of one turn more.
 use Prim.Native.Nat.{ℕ, _-_, _<_, _≤_}
-use mathlib.Core.Path.{_≡_, sym, ap, _∙_}
+use mathlib.Core.Path.{_≡_, refl, sym, ap, _∙_}
 use mathlib.Core.List.{List}
 use mathlib.Core.Logic.{_⊎_, inl, inr, ⊎-elim}
 use mathlib.Core.Option.{none, some}
 use borrow.Author.Needs.{needs}
-use lib.ListN.{length}
+use lib.ListN.{length, length-replicate}
 use Rattle.catalogue.specs.Catalogue.{Catalogue}
 use Rattle.catalogue.proofs.Faultless.{fault-zero, fault-whole}
 use Rattle.seat.specs.declared.Seat.{Seat}
@@ -68,9 +68,11 @@ seat-below p =
 
 starts-of-requires : tie.Need-starts-of-requires Inv-loop μ-loop
 starts-of-requires c κs =
-    let start = c .before .before .before in
-    let catalogue : Catalogue = record { sizes = start .args .sizes .now; list = start .args .rules .now } in
-    (fault-whole catalogue (start .pre .0 .1), fault-zero catalogue (start .pre .0 .1) .list-fits)
+    let start = c .before .before .before .before .before in
+    let catalogue : Catalogue = record { sizes = start .args .sizes .now; list = start .args .rules .now } in (
+      (fault-whole catalogue (start .pre .0 .1), fault-zero catalogue (start .pre .0 .1) .list-fits),
+      (length-replicate {A = ℕ} 1024 0, refl),
+    )
 
 seats-at-work-requires : tie.Need-seats-at-work-requires Inv-loop μ-loop
 seats-at-work-requires c κs = search needs
@@ -148,7 +150,7 @@ stepped-requires c κs =
         head .loop .inv .sound .clinics-fit (seat-of here) l .fits,
         (
           lent-length (head .loop .board) (seat-of here) (head .loop .inv .sound .board-length) l,
-          head .before .before .before .before .before .starts-of .ensures,
+          head .before .before .before .starts-of .ensures,
         ),
       ),
     )

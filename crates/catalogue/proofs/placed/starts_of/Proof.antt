@@ -12,8 +12,8 @@ use Rattle.catalogue.proofs.Steps.{left-lent}
 use Rattle.catalogue.proofs.WholeRule.{Whole}
 use Rattle.catalogue.proofs.AllStarts.{Noted, none-noted, whole-now, below-64, note, pass-over, all-noted}
 use borrow.Author.Needs.{needs}
-use Rattle.catalogue.proofs.placed.note_starts.Statement.{statement}
-use Rattle.catalogue.proofs.placed.note_starts.Tie as tie
+use Rattle.catalogue.proofs.placed.starts_of.Statement.{statement}
+use Rattle.catalogue.proofs.placed.starts_of.Tie as tie
 
 abbrev Inv-loop : tie.InvT-loop
 Inv-loop rules places₀ counts₀ place₀ places counts place = Noted rules places counts place
@@ -165,8 +165,8 @@ loop-again c =
 returns : tie.Need-returns Inv-loop μ-loop
 returns c = all-noted (c .before .loop .inv) (c .loop-test .left)
 
-pub note-starts-spec : {M : Type 1} → statement M
-note-starts-spec =
+pub starts-of-spec : {M : Type 1} → statement M
+starts-of-spec =
     tie.close
     (tie.spec
     Inv-loop
