@@ -100,3 +100,17 @@ module _
     pub turn-next : turn catalogue room .desk .next ≡ seatAfter c
     unfolding withClinic
     turn-next = rw turn-is refl
+
+module _
+    (catalogue : Catalogue)
+    (room : Room)
+    (eight : length (room .desk .seats) ≡ 8)
+    (board-length : length (room .board) ≡ 32768)
+    (c i : ℕ)
+    (l : c < 8)
+  where
+    pub relaxed : clinicAt (done catalogue (relax c i) room .room) c ≡ posted (catalogue .sizes) (set (choicesOf room c) i 255)
+    unfolding done
+    relaxed =
+        with-same room eight board-length c (room .desk .next) l (posted (catalogue .sizes) (set (choicesOf room c) i 255))
+        (posted-bytes (catalogue .sizes) (set (choicesOf room c) i 255))

@@ -17,6 +17,8 @@ use Rattle.seat.specs.Count.{sum}
 use Rattle.desk.specs.declared.Desk.{Desk}
 use Rattle.desk.specs.Room.{Room, seatAt}
 use Rattle.desk.specs.Turn.{isAtWork, served, isSome, is, turn, afterTurns, turnsMade, stepsGiven}
+use Rattle.desk.specs.Call.{turns}
+use Rattle.desk.specs.Perform.{done}
 use Rattle.desk.proofs.Sound.{Sound, turn-sound}
 use Rattle.desk.proofs.Served.{served-found}
 use Rattle.desk.proofs.RingAhead.{served-ahead}
@@ -106,6 +108,12 @@ module _ (catalogue : Catalogue) where
       go none idle rest = inr (omega arith, rw (idle-turn catalogue room idle, idle-turns catalogue w room idle, idle) refl)
       go (some d) found (inl all) = inl (omega arith)
       go (some d) found (inr (fewer, nobody)) = inr (omega arith, nobody)
+
+module _ (catalogue : Catalogue) where
+  pub steps-answered : faultOf catalogue ≡ 0 → (w : ℕ) (room : Room) → Sound catalogue room
+      → done catalogue (turns w) room .answer .made ≡ sumOver seats (λ (c : ℕ). stepsGiven catalogue c w room)
+  unfolding done
+  steps-answered fault w room sound = made-are-steps catalogue fault w room sound
 
 module _ (desk : Desk) (below : desk .next < 8) where
   pub somebody : (isSome (served desk) ≡ true) ↔ ((c : ℕ) × (c < 8) × (isAtWork (seatAt desk c .state) ≡ true))
