@@ -24,7 +24,7 @@ use Rattle.desk.specs.Run.{allTurnsAsked}
 use Rattle.worked.specs.Trolley.{trolley, allUnequal, lastChosen}
 use Rattle.worked.proofs.Computing.{computing}
 use Rattle.promises.specs.Moment.{moment, Opened, seatIn}
-use Rattle.promises.specs.OptionsLeft.{OptionsLeft}
+use Rattle.promises.specs.OptionsLeft.{OptionsLeft, GloballyConsistent}
 use Rattle.promises.specs.Waiting.{Waiting}
 use Rattle.promises.specs.SearchState.{OwnChoices}
 use Rattle.promises.specs.TwoRuns.{TwoRuns, callsOf, answersOf}
@@ -33,7 +33,7 @@ use Rattle.promises.specs.LastJob.{LastJob}
 use Rattle.promises.specs.Frame.{Whole}
 use Rattle.promises.specs.Posting.{EveryPosting}
 use Rattle.promises.specs.TurnsAnswered.{EveryTurns, OneTurn, FirstAtWork}
-use Rattle.promises.proofs.OptionsLeft.{options-left as proved-options-left}
+use Rattle.promises.proofs.OptionsLeft.{options-left as proved-options-left, globally-consistent as proved-consistent}
 use Rattle.promises.proofs.Waiting.{waiting as proved-waiting}
 use Rattle.promises.proofs.SearchState.{own-choices-traced as proved-own-choices}
 use Rattle.promises.proofs.TwoRuns.{two-runs as proved-two-runs}
@@ -93,6 +93,11 @@ example-120 demand =
     let first = shown .first-beside 2 (shown .left-exactly 2 .1 (1 ∷ 2 ∷ 0 ∷ [], rw in-force has-120)) in
     let one : BuildWith trolley lastChosen 1 2 (first .0) = rw in-force at (first .1 .one-of-them) in
     ap (λ (answer : Answer). answer .bytes) (first .2) ∙ ap padded (only-120 (first .0) one)
+
+-- 120 is a solution that keeps the choice, so that option 2 of feature 1 is in the GIC closure.
+consistent : GloballyConsistent → hasBit (perform trolley (options 0 1) (moment trolley board chosen) .answer .mask) 2 ≡ true
+consistent demand =
+    demand trolley board chosen 0 (lit< tt) is-ready .exactly 1 2 (feature 1 (lit< tt)) .1 (1 ∷ 2 ∷ 0 ∷ [], rw in-force has-120)
 
 -- ---- the choice dropped: what was hidden under it is left again
 
@@ -234,6 +239,9 @@ never-opens : LastJob → (calls : List Call) (c : ℕ) → seatIn (moment troll
 never-opens demand = demand .never-opens trolley [] not-opened
 
 -- ---- and so
+
+pub option-2-left : hasBit (perform trolley (options 0 1) (moment trolley board chosen) .answer .mask) 2 ≡ true
+option-2-left = consistent proved-consistent
 
 pub option-0-not-left : perform trolley (example 0 0 0) (moment trolley board chosen) .answer ≡ refused 37
 option-0-not-left = not-left proved-options-left

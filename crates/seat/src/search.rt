@@ -125,7 +125,7 @@ fn chosen_otherwise(choices: &[u8], feature: u8, option: u8) -> bool
 }
 
 // Rules 2 to 5: the option is placed and tested against each rule whose highest-numbered feature is the depth. The trial
-// is changed where it stands: a record that is copied at every step costs more than the test.
+// is changed where it stands, and no copy of it is handed back.
 fn try_next(
     place: Place,
     choices: &[u8],

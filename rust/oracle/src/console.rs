@@ -26,7 +26,7 @@ impl Console {
     pub fn play(&self, script: Vec<u8>, limit: usize) -> Played {
         let started = Command::new("sh")
             .arg("-c")
-            .arg(&self.command)
+            .arg(format!("exec {}", self.command)) // so that `kill` reaches the console itself
             .stdin(Stdio::piped())
             .stdout(Stdio::piped())
             .stderr(if self.loud { Stdio::inherit() } else { Stdio::null() })
