@@ -1,0 +1,278 @@
+//! The archive's door: its records, laid out as C lays them out, and its calls behind safe functions. All that is unsafe
+//! in this crate stands here. `crates/host/nethazel.h` says the same for C.
+
+use crate::Catalogue;
+
+#[derive(Clone, Copy, Debug, PartialEq, Eq)]
+#[repr(C)]
+pub struct SeatRecord {
+    pub state: u8,   // 0 closed, 1 ready, 2 at work
+    pub feature: u8, // the place at work, all 0 in the other states
+    pub option: u8,
+    pub depth: u8,
+    pub next: u8,
+    pub choices: [u8; 16],
+    pub masks: [u16; 16],
+    pub trial: [u8; 16],
+}
+
+#[derive(Clone, Copy, Debug, PartialEq, Eq)]
+#[repr(C)]
+pub struct DeskRecord {
+    pub seats: [SeatRecord; 8],
+    pub next: u8,
+}
+
+#[repr(C)]
+pub struct Changed {
+    pub number: u8,
+    pub desk: DeskRecord,
+}
+
+#[repr(C)]
+pub struct Left {
+    pub number: u8,
+    pub mask: u16,
+    pub count: u32,
+}
+
+#[repr(C)]
+pub struct ExampleAt {
+    pub number: u8,
+    pub from: usize,
+    pub length: usize,
+}
+
+#[repr(C)]
+pub struct Turned {
+    pub number: u8,
+    pub made: u16,
+    pub working: u8, // C's bool, read as the byte it is
+    pub desk: DeskRecord,
+}
+
+extern "C" {
+    fn nethazel_open(
+        board: *mut u8,
+        board_length: usize,
+        sizes: *const u8,
+        sizes_length: usize,
+        rules: *const u16,
+        rules_length: usize,
+    ) -> Changed;
+    fn nethazel_enter(
+        desk: DeskRecord,
+        board: *mut u8,
+        board_length: usize,
+        sizes: *const u8,
+        sizes_length: usize,
+        rules: *const u16,
+        rules_length: usize,
+        seat: usize,
+    ) -> Changed;
+    fn nethazel_leave(
+        desk: DeskRecord,
+        board: *mut u8,
+        board_length: usize,
+        sizes: *const u8,
+        sizes_length: usize,
+        rules: *const u16,
+        rules_length: usize,
+        seat: usize,
+    ) -> Changed;
+    fn nethazel_choose(
+        desk: DeskRecord,
+        board: *mut u8,
+        board_length: usize,
+        sizes: *const u8,
+        sizes_length: usize,
+        rules: *const u16,
+        rules_length: usize,
+        seat: usize,
+        feature: usize,
+        option: usize,
+    ) -> Changed;
+    fn nethazel_relax(
+        desk: DeskRecord,
+        board: *mut u8,
+        board_length: usize,
+        sizes: *const u8,
+        sizes_length: usize,
+        rules: *const u16,
+        rules_length: usize,
+        seat: usize,
+        feature: usize,
+    ) -> Changed;
+    fn nethazel_options(
+        desk: DeskRecord,
+        board: *const u8,
+        board_length: usize,
+        sizes: *const u8,
+        sizes_length: usize,
+        rules: *const u16,
+        rules_length: usize,
+        seat: usize,
+        feature: usize,
+    ) -> Left;
+    fn nethazel_example(
+        desk: DeskRecord,
+        board: *const u8,
+        board_length: usize,
+        sizes: *const u8,
+        sizes_length: usize,
+        rules: *const u16,
+        rules_length: usize,
+        seat: usize,
+        feature: usize,
+        option: usize,
+    ) -> ExampleAt;
+    fn nethazel_turns(
+        desk: DeskRecord,
+        board: *mut u8,
+        board_length: usize,
+        sizes: *const u8,
+        sizes_length: usize,
+        rules: *const u16,
+        rules_length: usize,
+        turns: u16,
+    ) -> Turned;
+}
+
+/// Calls a function of the archive, each slice handed over as pointer, then length.
+macro_rules! call {
+    ($function:ident([$($desk:ident)?] $board:ident.$pointer:ident(), $catalogue:ident, [$($number:ident),*])) => {{
+        let (sizes, rules) = ($catalogue.sizes(), $catalogue.rule_list());
+        // SAFETY: the declaration above is the archive's own. Each pointer and length are those of a slice that is
+        // borrowed for the whole call, so they are never null, aligned, and as long as they say; a board that is written
+        // is borrowed alone, so it overlaps nothing. The archive keeps no pointer, and its contract holds for every
+        // desk, board, catalogue and number, so nothing else is owed.
+        unsafe {
+            $function(
+                $($desk,)?
+                $board.$pointer(),
+                $board.len(),
+                sizes.as_ptr(),
+                sizes.len(),
+                rules.as_ptr(),
+                rules.len(),
+                $($number),*
+            )
+        }
+    }};
+}
+
+pub fn open(board: &mut [u8], catalogue: &Catalogue) -> Changed {
+    call!(nethazel_open([] board.as_mut_ptr(), catalogue, []))
+}
+
+pub fn enter(desk: DeskRecord, board: &mut [u8], catalogue: &Catalogue, seat: usize) -> Changed {
+    call!(nethazel_enter([desk] board.as_mut_ptr(), catalogue, [seat]))
+}
+
+pub fn leave(desk: DeskRecord, board: &mut [u8], catalogue: &Catalogue, seat: usize) -> Changed {
+    call!(nethazel_leave([desk] board.as_mut_ptr(), catalogue, [seat]))
+}
+
+pub fn choose(
+    desk: DeskRecord,
+    board: &mut [u8],
+    catalogue: &Catalogue,
+    seat: usize,
+    feature: usize,
+    option: usize,
+) -> Changed {
+    call!(nethazel_choose([desk] board.as_mut_ptr(), catalogue, [seat, feature, option]))
+}
+
+pub fn relax(
+    desk: DeskRecord,
+    board: &mut [u8],
+    catalogue: &Catalogue,
+    seat: usize,
+    feature: usize,
+) -> Changed {
+    call!(nethazel_relax([desk] board.as_mut_ptr(), catalogue, [seat, feature]))
+}
+
+pub fn options(
+    desk: DeskRecord,
+    board: &[u8],
+    catalogue: &Catalogue,
+    seat: usize,
+    feature: usize,
+) -> Left {
+    call!(nethazel_options([desk] board.as_ptr(), catalogue, [seat, feature]))
+}
+
+pub fn example(
+    desk: DeskRecord,
+    board: &[u8],
+    catalogue: &Catalogue,
+    seat: usize,
+    feature: usize,
+    option: usize,
+) -> ExampleAt {
+    call!(nethazel_example([desk] board.as_ptr(), catalogue, [seat, feature, option]))
+}
+
+pub fn turns(desk: DeskRecord, board: &mut [u8], catalogue: &Catalogue, turns: u16) -> Turned {
+    call!(nethazel_turns([desk] board.as_mut_ptr(), catalogue, [turns]))
+}
+
+#[cfg(test)]
+mod tests {
+    use super::*;
+    use std::mem::size_of;
+
+    /// The sizes that the C header's own test has.
+    #[test]
+    fn records_are_laid_out_as_in_c() {
+        assert_eq!(
+            (size_of::<SeatRecord>(), size_of::<DeskRecord>()),
+            (70, 562)
+        );
+        assert_eq!((size_of::<Changed>(), size_of::<Turned>()), (564, 568));
+        assert_eq!((size_of::<Left>(), size_of::<ExampleAt>()), (8, 24));
+    }
+
+    #[test]
+    fn a_board_of_another_length_is_refused_with_1() {
+        let catalogue = Catalogue::new(&[3, 3, 2]);
+        assert_eq!(open(&mut [0; 32_767], &catalogue).number, 1);
+        assert_eq!(open(&mut [0; 32_769], &catalogue).number, 1);
+        assert_eq!(open(&mut [], &catalogue).number, 1);
+        let opened = open(&mut [0; 32_768], &catalogue);
+        assert_eq!(opened.number, 0);
+        assert_eq!(
+            turns(opened.desk, &mut [0; 32_767], &catalogue, 1).number,
+            1
+        );
+    }
+
+    #[test]
+    fn a_desk_that_does_not_fit_is_refused_with_20_and_comes_back() {
+        let catalogue = Catalogue::new(&[3, 3, 2]);
+        let mut board = [0; 32_768];
+        let mut unfit = open(&mut board, &catalogue).desk;
+        unfit.seats[5].state = 3;
+        unfit.seats[5].masks[15] = 4711;
+        let turned = turns(unfit, &mut board, &catalogue, 7);
+        assert_eq!((turned.number, turned.made, turned.working), (20, 0, 0));
+        assert_eq!(turned.desk, unfit);
+        assert_eq!(options(unfit, &board, &catalogue, 9, 9).number, 20);
+        let entered = enter(unfit, &mut board, &catalogue, 0);
+        assert_eq!((entered.number, entered.desk), (20, unfit));
+    }
+
+    #[test]
+    fn a_desk_of_another_catalogue_is_refused_with_20() {
+        let mut board = [0; 32_768];
+        let small = Catalogue::new(&[2]);
+        let large = Catalogue::new(&[3, 3]);
+        let opened = open(&mut board, &large);
+        let entered = enter(opened.desk, &mut board, &large, 0);
+        let ready = turns(entered.desk, &mut board, &large, u16::MAX);
+        assert_eq!((ready.number, ready.working), (0, 0));
+        assert_eq!(leave(ready.desk, &mut board, &small, 0).number, 20);
+    }
+}
