@@ -49,6 +49,10 @@ start-of p = head-of p .before .before .before .before .before .before .before .
 abbrev turn-of : tie.After-is-at-work Inv-loop μ-loop → tie.After-known-told Inv-loop μ-loop
 turn-of p = p .before .before .before .before .before .before .before .before
 
+-- the same turn, after its mark
+abbrev asked-of : tie.After-with-mark Inv-loop μ-loop → tie.After-is-at-work Inv-loop μ-loop
+asked-of p = p .before
+
 -- a turn is left to make
 turn-left : (p : tie.After-known-told Inv-loop μ-loop) → head-of p .loop .made < start-of p .args .w
 turn-left p = p .before .before .before .before .loop-test .taken
@@ -157,17 +161,17 @@ with-mark-requires : tie.Need-with-mark-requires Inv-loop μ-loop
 with-mark-requires c κs = seat-below (turn-of c)
 
 mul-seats : tie.Need-mul-seats Inv-loop μ-loop
-mul-seats c = let l = seat-below (turn-of (c .before)) in search needs
+mul-seats c = let l = seat-below (turn-of (asked-of c)) in search needs
 
 array-set-from-seats : tie.Need-array-set-from-seats Inv-loop μ-loop
-array-set-from-seats c = let l = seat-below (turn-of (c .before)) in search needs
+array-set-from-seats c = let l = seat-below (turn-of (asked-of c)) in search needs
 
 cast-next : tie.Need-cast-next Inv-loop μ-loop
 cast-next c = search needs
 
 add-made : tie.Need-add-made Inv-loop μ-loop
 add-made c =
-    let here = turn-of (c .before) in
+    let here = turn-of (asked-of c) in
     let l = turn-left here in
     let w-fits = start-of here .fits .w in
     search needs
@@ -178,8 +182,8 @@ loop-less c = search needs
 loop-again : tie.Need-loop-again Inv-loop μ-loop
 unfolding withClinic
 loop-again c =
-    let here = turn-of (c .before) in
-    let stepped = c .before .before .before .before .stepped in
+    let here = turn-of (asked-of c) in
+    let stepped = asked-of c .before .before .before .stepped in
     let head = head-of here in
     let board = head .loop .board in
     let seat : ℕ = seat-of here in
@@ -189,7 +193,7 @@ loop-again c =
     stepped .kept .1 .0 ∙ lent-length board seat (head .loop .inv .sound .board-length) (seat-below here) in
     let same : clinic ≡ step _ (clinicAt (room (head .loop .seats) (head .loop .next) board) seat) =
     rw (lent-is board seat) at (stepped .ensures) in
-    rw (c .with-mark .ensures, c .before .is-at-work .ensures, back-is board seat share full)
+    rw (c .with-mark .ensures, asked-of c .is-at-work .ensures, back-is board seat share full)
     (turn-made (head .loop .inv) (start-of here .pre .0 .1) (turn-left here) seat (found here) clinic same)
 
 cast-first-at-work-2 : tie.Need-cast-first-at-work-2 Inv-loop μ-loop
