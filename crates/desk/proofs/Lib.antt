@@ -10,6 +10,7 @@
 pub mod WithClinic
 pub mod LentShare
 pub mod Served
+pub mod Marks
 pub mod Sound
 pub mod ArrayLengths
 pub mod ChecksPassed

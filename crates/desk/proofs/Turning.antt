@@ -6,7 +6,7 @@ use mathlib.Core.Bool.{Bool}
 use mathlib.Core.List.{List}
 use mathlib.Core.Logic.{_⊎_, ⊎-elim}
 use mathlib.Core.Option.{none, some}
-use lib.ListN.{length, set, length-map}
+use lib.ListN.{set}
 use Rattle.catalogue.specs.Catalogue.{Catalogue}
 use Rattle.catalogue.specs.Fault.{faultOf}
 use Rattle.seat.specs.Clinic.{Clinic}
@@ -34,9 +34,6 @@ module _
     {room : Room}
     (now : Turning catalogue w start made working room)
   where
-    pub eight-marks : length working ≡ 8
-    eight-marks = rw (now .marked, length-map) (now .sound .eight)
-
     pub found-served : trueFrom 8 working (room .desk .next) ≡ served (room .desk)
     found-served = rw (now .marked) (marks-found 8 (room .desk) (room .desk .next))
 

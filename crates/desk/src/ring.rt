@@ -8,7 +8,7 @@ ghost use mathlib.Core.Path.{_≡_};
 ghost use mathlib.Core.Bool.{true};
 ghost use mathlib.Core.List.{map};
 ghost use Prim.Native.Nat.{_<_};
-ghost use lib.ListN.{length};
+ghost use lib.ListN.{length, set};
 ghost use Rattle.catalogue.specs.Fault.{faultOf};
 ghost use Rattle.catalogue.specs.Starts.{AllStarts};
 ghost use Rattle.seat.specs.declared.Seat.{Seat};
@@ -17,6 +17,7 @@ ghost use Rattle.seat.specs.Step.{step};
 ghost use Rattle.desk.specs.Call.{turns};
 ghost use Rattle.desk.specs.Answers.{TurnsTo, foundOf, trueFrom};
 ghost use Rattle.desk.specs.Fit.{deskFits};
+ghost use Rattle.desk.specs.Marks.{marksOf};
 ghost use Rattle.desk.specs.Perform.{perform, done};
 ghost use Rattle.desk.specs.Turn.{isAtWork, isSome};
 
@@ -56,7 +57,7 @@ fn make_turns(desk: Desk, board: &mut [u8], sizes: &[u8], rules: &[u16], w: u16)
     let mut working = seats_at_work(seats);
     let mut made = 0u16;
     while made < w {
-        let Found::At(c) = first_at_work(&working, next as usize) else {
+        let Found::At(c) = first_at_work(working, next as usize) else {
             break;
         };
         let from = c * 4096;
@@ -69,12 +70,12 @@ fn make_turns(desk: Desk, board: &mut [u8], sizes: &[u8], rules: &[u16], w: u16)
             &places,
             &counts,
         );
-        working[c] = is_at_work(seat);
+        working = with_mark(working, c, is_at_work(seat));
         seats[c] = seat;
         next = after as u8;
         made += 1;
     }
-    let found = first_at_work(&working, next as usize);
+    let found = first_at_work(working, next as usize);
     Turned {
         number: 0,
         made,
@@ -102,34 +103,43 @@ fn stepped(
     seat
 }
 
-// Which of the eight seats are at work.
-fn seats_at_work(seats: [Seat; 8]) -> [bool; 8]
-    ensures { λ r. ⌜ r ≡ map (λ (seat : Seat). isAtWork (seat .state)) seats ⌝ }
+// Which of the eight seats are at work: the bits of a byte, that of seat 0 lowest.
+fn seats_at_work(seats: [Seat; 8]) -> u8
+    ensures { λ r. ⌜ marksOf r ≡ map (λ (seat : Seat). isAtWork (seat .state)) seats ⌝ }
 {
-    let mut working = [false; 8];
+    let mut working = 0u8;
     let mut c = 0usize;
     while c < 8 {
-        working[c] = is_at_work(seats[c]);
+        working = with_mark(working, c, is_at_work(seats[c]));
         c += 1;
     }
     working
 }
 
-// The first seat at work from `next` upward around the ring.
-fn first_at_work(working: &[bool], next: usize) -> Found
-    requires { ⌜ (length (now working) ≡ 8) × (next < 8) ⌝ }
-    ensures { λ r. ⌜ foundOf r ≡ trueFrom 8 (now (working .entry)) next ⌝ }
+// The marks with that of one seat made anew.
+fn with_mark(working: u8, c: usize, mark: bool) -> u8
+    requires { ⌜ c < 8 ⌝ }
+    ensures { λ r. ⌜ marksOf r ≡ set (marksOf working) c mark ⌝ }
 {
-    let mut c = next;
-    let mut left = 8usize;
-    while 0 < left {
-        if working[c] {
-            return Found::At(c);
-        }
-        c = (c + 1) % 8;
-        left -= 1;
+    let bit = 1u8 << c;
+    if mark {
+        return working | bit;
     }
-    Found::Nobody
+    working & (255 - bit)
+}
+
+// The first seat at work from `next` upward around the ring. The marks are laid out twice, so that the seats from `next`
+// on stand in one row, and the first is as far ahead as there are zeros below it.
+fn first_at_work(working: u8, next: usize) -> Found
+    requires { ⌜ next < 8 ⌝ }
+    ensures { λ r. ⌜ foundOf r ≡ trueFrom 8 (marksOf working) next ⌝ }
+{
+    if working == 0 {
+        return Found::Nobody;
+    }
+    let twice = working as u32 * 257;
+    let ahead = u32::trailing_zeros(twice >> next) as usize;
+    Found::At((next + ahead) % 8)
 }
 
 fn is_someone(found: Found) -> bool

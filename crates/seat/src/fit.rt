@@ -3,14 +3,14 @@ use crate::Place;
 use crate::Seat;
 use crate::State;
 ghost use mathlib.Core.Path.{_≡_};
-ghost use mathlib.Core.Bool.{cond};
+ghost use mathlib.Core.Bool.{cond, _&&_};
 ghost use Prim.Native.Nat.{_<_};
 ghost use lib.ListN.{length, getD};
 ghost use lib.Dec.{ltb, eqb};
 ghost use Rattle.catalogue.specs.Fault.{faultOf, sizesFault};
 ghost use Rattle.seat.specs.Fit.{everyBelow, choiceFits, maskFits, entryFits, emptyAt, placeFits, seatFits};
 
-// Whether a record fits a catalogue without a fault.
+// Whether a record fits a catalogue without a fault. A closed seat is empty, and what is empty fits any sizes.
 pub fn seat_fits(seat: Seat, sizes: &[u8], rules: &[u16]) -> bool
     requires { ⌜ faultOf (record { sizes = now sizes; list = now rules }) ≡ 0 ⌝ }
     ensures { λ r. ⌜ r ≡ seatFits (record { sizes = now (sizes .entry); list = now (rules .entry) }) seat ⌝ }
@@ -19,12 +19,6 @@ pub fn seat_fits(seat: Seat, sizes: &[u8], rules: &[u16]) -> bool
     let masks = seat.masks;
     let trial = seat.trial;
     let state = seat.state;
-    if !choices_fit(&choices, sizes) {
-        return false;
-    }
-    if !masks_fit(&masks, sizes) {
-        return false;
-    }
     match state {
         State::Closed => {
             if !all_empty(&choices, &masks) {
@@ -32,14 +26,28 @@ pub fn seat_fits(seat: Seat, sizes: &[u8], rules: &[u16]) -> bool
             }
             trial_fits(&trial, 0, sizes)
         }
-        State::Ready => trial_fits(&trial, 0, sizes),
+        State::Ready => open_fits(&choices, &masks, &trial, 0, sizes),
         State::AtWork(place) => {
             if !place_fits(place, sizes, rules) {
                 return false;
             }
-            trial_fits(&trial, place.depth as usize, sizes)
+            open_fits(&choices, &masks, &trial, place.depth as usize, sizes)
         }
     }
+}
+
+// What is asked of the choices, masks and trial of every seat.
+fn open_fits(choices: &[u8], masks: &[u16], trial: &[u8], depth: usize, sizes: &[u8]) -> bool
+    requires { ⌜ (length (now choices) ≡ 16) × (length (now masks) ≡ 16) × (length (now trial) ≡ 16) × (sizesFault (now sizes) ≡ 0) ⌝ }
+    ensures { λ r. ⌜ r ≡ (everyBelow 16 (choiceFits (now (sizes .entry)) (now (choices .entry))) && everyBelow 16 (maskFits (now (sizes .entry)) (now (masks .entry))) && everyBelow 16 (entryFits (now (sizes .entry)) depth (now (trial .entry)))) ⌝ }
+{
+    if !choices_fit(choices, sizes) {
+        return false;
+    }
+    if !masks_fit(masks, sizes) {
+        return false;
+    }
+    trial_fits(trial, depth, sizes)
 }
 
 // Each choice is 255 or an option of its feature.

@@ -1,69 +1,35 @@
--- The seats from c on that are left to look at give what all eight from `next` on give; a seat that is not at work is left
--- behind, and the first that is ends the search.
-use Prim.Native.Nat.{_-_, _<_, _≤_}
-use mathlib.Core.Path.{_≡_, sym, _∙_}
+-- The seat as far ahead as there are zeros below the first mark is the one that the ring finds, by the laws of `Marks`.
+use Prim.Native.Nat.{_*_, _/_, _^_}
 use native.Mathlib.Omega.{arith}
 use borrow.Author.Needs.{needs}
-use Rattle.desk.specs.Answers.{trueFrom}
-use Rattle.desk.proofs.Served.{after-below}
-use Rattle.desk.proofs.FirstAtWork.{found-here, looked-on}
+use lib.Count.{trailing-le}
+use Rattle.desk.proofs.Marks.{first-marked, none-marked}
 use Rattle.desk.proofs.ring.first_at_work.Statement.{statement}
 use Rattle.desk.proofs.ring.first_at_work.Tie as tie
 
-abbrev Inv-loop : tie.InvT-loop
-Inv-loop working next c₀ left₀ c left = (c < 8) × (left ≤ 8) × (trueFrom left working c ≡ trueFrom 8 working next)
+returns : tie.Need-returns
+returns c = none-marked (c .before .args .working) (c .before .args .next) (c .before .pre) (c .if1 .taken)
 
-abbrev μ-loop : tie.MeasureT-loop
-μ-loop working next c₀ left₀ c left = left
+mul-twice : tie.Need-mul-twice
+mul-twice c = search needs
 
-loop-holds : tie.Need-loop-holds Inv-loop μ-loop
-loop-holds c = search needs
+cast-ahead : tie.Need-cast-ahead
+cast-ahead c = search needs
 
-shared-slice-read-if1 : tie.Need-shared-slice-read-if1 Inv-loop μ-loop
-shared-slice-read-if1 c = search needs
+shr-ahead : tie.Need-shr-ahead
+shr-ahead c = search needs
 
-returns : tie.Need-returns Inv-loop μ-loop
-returns c =
-    let here = c .before .before .before .loop in
-    let working = c .before .before .before .before .args .working .now in
-    sym (found-here working (here .c) (here .left) (here .left - 1) (omega arith) (c .if1 .taken)) ∙ here .inv .2
+cast-ahead-2 : tie.Need-cast-ahead-2
+cast-ahead-2 c = omega (arith, trailing-le 32 (c .before .args .working * 257 / 2 ^ (c .before .args .next)))
 
-add-c : tie.Need-add-c Inv-loop μ-loop
-add-c c = search needs
+add-t9 : tie.Need-add-t9
+add-t9 c = omega (arith, trailing-le 32 (c .before .args .working * 257 / 2 ^ (c .before .args .next)))
 
-sub-left : tie.Need-sub-left Inv-loop μ-loop
-sub-left c = search needs
-
-loop-less : tie.Need-loop-less Inv-loop μ-loop
-loop-less c = search needs
-
-loop-again : tie.Need-loop-again Inv-loop μ-loop
-loop-again c =
-    let here = c .before .before .before .loop in
-    let working = c .before .before .before .before .args .working .now in (
-      after-below (here .c),
-      omega arith,
-      sym (looked-on working (here .c) (here .left) (here .left - 1) (omega arith) (c .if1 .left)) ∙ here .inv .2,
-    )
-
-returns-2 : tie.Need-returns-2 Inv-loop μ-loop
-unfolding trueFrom
+returns-2 : tie.Need-returns-2
 returns-2 c =
-    let here = c .before .loop in
-    let none-left : here .left ≡ 0 = omega arith in
-    rw none-left at (here .inv .2)
+    let start = c .before in
+    first-marked (start .args .working) (start .args .next) (start .fits .working .fits) (start .pre) (c .if1 .left)
 
 pub first-at-work-spec : {M : Type 1} → statement M
 first-at-work-spec =
-    tie.close
-    (tie.spec
-    Inv-loop
-    μ-loop
-    loop-holds
-    shared-slice-read-if1
-    returns
-    add-c
-    sub-left
-    loop-less
-    loop-again
-    returns-2)
+    tie.close (tie.spec returns mul-twice cast-ahead shr-ahead cast-ahead-2 add-t9 returns-2)

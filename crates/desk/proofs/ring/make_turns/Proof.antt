@@ -14,13 +14,14 @@ use Rattle.seat.specs.Clinic.{Clinic}
 use Rattle.seat.specs.Step.{step}
 use Rattle.desk.specs.declared.Desk.{Desk}
 use Rattle.desk.specs.Answers.{foundOf, trueFrom}
+use Rattle.desk.specs.Marks.{marksOf}
 use Rattle.desk.specs.Room.{Room, clinicAt, withClinic}
 use Rattle.desk.proofs.ArrayLengths.{eight-seats, sixteen-each}
 use Rattle.desk.proofs.LentShare.{lent-length, lent-is, back-is}
 use Rattle.desk.proofs.Served.{served-found}
 use Rattle.desk.proofs.Sound.{fits-sound}
 use Rattle.desk.proofs.MadeTurns.{none-made}
-use Rattle.desk.proofs.Turning.{Turning, eight-marks, found-served, turn-made, turns-done}
+use Rattle.desk.proofs.Turning.{Turning, found-served, turn-made, turns-done}
 use Rattle.desk.proofs.ring.make_turns.Statement.{statement}
 use Rattle.desk.proofs.ring.make_turns.Tie as tie
 
@@ -29,20 +30,17 @@ room seats next board = record { desk = record { seats = seats; next = next }; b
 
 abbrev Inv-loop : tie.InvT-loop
 Inv-loop board₀ sizes rules w places counts seats₀ next₀ working₀ made₀ board seats next working made =
-    Turning (record { sizes = sizes; list = rules }) w (room seats₀ next₀ board₀) made working (room seats next board)
+    Turning (record { sizes = sizes; list = rules }) w (room seats₀ next₀ board₀) made (marksOf working) (room seats next board)
 
 abbrev μ-loop : tie.MeasureT-loop
 μ-loop board₀ sizes rules w places counts seats₀ next₀ working₀ made₀ board seats next working made = w - made
-
-eight : (p : tie.At-loop Inv-loop μ-loop) → length (p .loop .working) ≡ 8
-eight p = eight-marks (p .loop .inv)
 
 -- the seat found, and where the turn and the function began
 abbrev seat-of : tie.After-known-told Inv-loop μ-loop → ℕ
 seat-of p = p .before .c .given .0 .0
 
 abbrev head-of : tie.After-known-told Inv-loop μ-loop → tie.At-loop Inv-loop μ-loop
-head-of p = p .before .before .before .before .before .before
+head-of p = p .before .before .before .before .before
 
 abbrev start-of : tie.After-known-told Inv-loop μ-loop → tie.Start Inv-loop μ-loop
 start-of p = head-of p .before .before .before .before .before .before .before .before .before
@@ -51,12 +49,16 @@ start-of p = head-of p .before .before .before .before .before .before .before .
 abbrev turn-of : tie.After-is-at-work Inv-loop μ-loop → tie.After-known-told Inv-loop μ-loop
 turn-of p = p .before .before .before .before .before .before .before .before
 
+-- the same turn, after its mark
+abbrev asked-of : tie.After-with-mark Inv-loop μ-loop → tie.After-is-at-work Inv-loop μ-loop
+asked-of p = p .before
+
 -- a turn is left to make
 turn-left : (p : tie.After-known-told Inv-loop μ-loop) → head-of p .loop .made < start-of p .args .w
-turn-left p = p .before .before .before .before .before .loop-test .taken
+turn-left p = p .before .before .before .before .loop-test .taken
 
 found : (p : tie.After-known-told Inv-loop μ-loop)
-    → trueFrom 8 (head-of p .loop .working) (head-of p .loop .next) ≡ some (seat-of p)
+    → trueFrom 8 (marksOf (head-of p .loop .working)) (head-of p .loop .next) ≡ some (seat-of p)
 found p = sym (p .before .before .before .first-at-work .ensures) ∙ ap foundOf (p .before .c .given .1)
 
 seat-below : (p : tie.After-known-told Inv-loop μ-loop) → seat-of p < 8
@@ -91,14 +93,11 @@ loop-holds c =
       marked = c .seats-at-work .ensures;
     }
 
-slice-aggregate-first-at-work : tie.Need-slice-aggregate-first-at-work Inv-loop μ-loop
-slice-aggregate-first-at-work c = let l = eight (c .before .before) in search needs
-
 cast-first-at-work : tie.Need-cast-first-at-work Inv-loop μ-loop
 cast-first-at-work c = search needs
 
 first-at-work-requires : tie.Need-first-at-work-requires Inv-loop μ-loop
-first-at-work-requires c κs = (eight (c .before .before), c .before .before .loop .inv .sound .next-below)
+first-at-work-requires c κs = c .before .loop .inv .sound .next-below
 
 enum-known-c : tie.Need-enum-known-c Inv-loop μ-loop
 enum-known-c c = search needs
@@ -130,7 +129,7 @@ part-stepped-start c = search needs
 part-stepped-end : tie.Need-part-stepped-end Inv-loop μ-loop
 part-stepped-end c =
     let l = seat-below (c .before) in
-    let whole = c .before .before .before .before .before .before .before .loop .inv .sound .board-length in
+    let whole = head-of (c .before) .loop .inv .sound .board-length in
     search needs
 
 slice-aggregate-stepped : tie.Need-slice-aggregate-stepped Inv-loop μ-loop
@@ -158,21 +157,21 @@ stepped-requires c κs =
 is-at-work-requires : tie.Need-is-at-work-requires Inv-loop μ-loop
 is-at-work-requires c κs = search needs
 
-array-write-working : tie.Need-array-write-working Inv-loop μ-loop
-array-write-working c = let l = seat-below (turn-of c) in search needs
+with-mark-requires : tie.Need-with-mark-requires Inv-loop μ-loop
+with-mark-requires c κs = seat-below (turn-of c)
 
 mul-seats : tie.Need-mul-seats Inv-loop μ-loop
-mul-seats c = let l = seat-below (turn-of c) in search needs
+mul-seats c = let l = seat-below (turn-of (asked-of c)) in search needs
 
 array-set-from-seats : tie.Need-array-set-from-seats Inv-loop μ-loop
-array-set-from-seats c = let l = seat-below (turn-of c) in search needs
+array-set-from-seats c = let l = seat-below (turn-of (asked-of c)) in search needs
 
 cast-next : tie.Need-cast-next Inv-loop μ-loop
 cast-next c = search needs
 
 add-made : tie.Need-add-made Inv-loop μ-loop
 add-made c =
-    let here = turn-of c in
+    let here = turn-of (asked-of c) in
     let l = turn-left here in
     let w-fits = start-of here .fits .w in
     search needs
@@ -183,8 +182,8 @@ loop-less c = search needs
 loop-again : tie.Need-loop-again Inv-loop μ-loop
 unfolding withClinic
 loop-again c =
-    let here = turn-of c in
-    let stepped = c .before .before .before .stepped in
+    let here = turn-of (asked-of c) in
+    let stepped = asked-of c .before .before .before .stepped in
     let head = head-of here in
     let board = head .loop .board in
     let seat : ℕ = seat-of here in
@@ -194,17 +193,14 @@ loop-again c =
     stepped .kept .1 .0 ∙ lent-length board seat (head .loop .inv .sound .board-length) (seat-below here) in
     let same : clinic ≡ step _ (clinicAt (room (head .loop .seats) (head .loop .next) board) seat) =
     rw (lent-is board seat) at (stepped .ensures) in
-    rw (c .is-at-work .ensures, back-is board seat share full)
+    rw (c .with-mark .ensures, asked-of c .is-at-work .ensures, back-is board seat share full)
     (turn-made (head .loop .inv) (start-of here .pre .0 .1) (turn-left here) seat (found here) clinic same)
-
-slice-aggregate-first-at-work-2 : tie.Need-slice-aggregate-first-at-work-2 Inv-loop μ-loop
-slice-aggregate-first-at-work-2 c = let l = eight (c .before .before) in search needs
 
 cast-first-at-work-2 : tie.Need-cast-first-at-work-2 Inv-loop μ-loop
 cast-first-at-work-2 c = search needs
 
 first-at-work-requires-2 : tie.Need-first-at-work-requires-2 Inv-loop μ-loop
-first-at-work-requires-2 c κs = (eight (c .before .before), c .before .before .loop .inv .sound .next-below)
+first-at-work-requires-2 c κs = c .before .loop .inv .sound .next-below
 
 is-someone-requires : tie.Need-is-someone-requires Inv-loop μ-loop
 is-someone-requires c κs = search needs
@@ -215,13 +211,13 @@ same-length c = search needs
 -- the loop is left after the last turn, or when nobody is at work
 ended : (p : tie.Left-loop Inv-loop μ-loop)
     → (p .before .before .before .before .before .before .before .before .before .before .args .w ≤ p .before .loop .made)
-    ⊎ (trueFrom 8 (p .before .loop .working) (p .before .loop .next) ≡ none)
+    ⊎ (trueFrom 8 (marksOf (p .before .loop .working)) (p .before .loop .next) ≡ none)
 ended p =
-    ⊎-elim (λ w. inl (w .left)) (λ w. inr (sym (w .2 .ensures) ∙ ap foundOf (w .4 .given .1))) (p .loop-test .came)
+    ⊎-elim (λ w. inl (w .left)) (λ w. inr (sym (w .1 .ensures) ∙ ap foundOf (w .3 .given .1))) (p .loop-test .came)
 
 returns : tie.Need-returns Inv-loop μ-loop
 returns c =
-    let left = c .before .before .before in
+    let left = c .before .before in
     rw (c .is-someone .ensures, c .before .first-at-work2 .ensures)
     (turns-done (left .before .loop .inv) (ended left))
 
@@ -234,7 +230,6 @@ make-turns-spec =
     starts-of-requires
     seats-at-work-requires
     loop-holds
-    slice-aggregate-first-at-work
     cast-first-at-work
     first-at-work-requires
     enum-known-c
@@ -251,14 +246,13 @@ make-turns-spec =
     slice-aggregate-stepped-2
     stepped-requires
     is-at-work-requires
-    array-write-working
+    with-mark-requires
     mul-seats
     array-set-from-seats
     cast-next
     add-made
     loop-less
     loop-again
-    slice-aggregate-first-at-work-2
     cast-first-at-work-2
     first-at-work-requires-2
     is-someone-requires

@@ -6,17 +6,19 @@ use mathlib.Core.List.{List}
 use native.Mathlib.Omega.{arith}
 use native.Mathlib.Numerals.{add-one}
 use borrow.Author.Needs.{needs}
-use lib.ListN.{length, getD, take, set, length-set, length-map}
+use lib.ListN.{length, getD, take, set, length-map}
 use lib.Seq.{take-all, take-suc, take-suc-set}
 use Rattle.seat.specs.declared.Seat.{Seat}
 use Rattle.desk.specs.Turn.{isAtWork}
+use Rattle.desk.specs.Marks.{marksOf}
 use Rattle.desk.proofs.WithClinic.{noSeat}
 use Rattle.desk.proofs.FirstAtWork.{marks, mark-at}
+use Rattle.desk.proofs.Marks.{eight-in}
 use Rattle.desk.proofs.ring.seats_at_work.Statement.{statement}
 use Rattle.desk.proofs.ring.seats_at_work.Tie as tie
 
 abbrev Inv-loop : tie.InvT-loop
-Inv-loop seats working₀ c₀ working c = (c ≤ 8) × (length working ≡ 8) × (take c working ≡ take c (marks seats))
+Inv-loop seats working₀ c₀ working c = (c ≤ 8) × (take c (marksOf working) ≡ take c (marks seats))
 
 abbrev μ-loop : tie.MeasureT-loop
 μ-loop seats working₀ c₀ working c = 8 - c
@@ -33,8 +35,8 @@ array-copy-out-is-at-work c = search needs
 is-at-work-requires : tie.Need-is-at-work-requires Inv-loop μ-loop
 is-at-work-requires c κs = search needs
 
-array-write-working : tie.Need-array-write-working Inv-loop μ-loop
-array-write-working c = search needs
+with-mark-requires : tie.Need-with-mark-requires Inv-loop μ-loop
+with-mark-requires c κs = search needs
 
 add-c : tie.Need-add-c Inv-loop μ-loop
 add-c c = search needs
@@ -52,24 +54,25 @@ marked seats working c mark l k h before =
 
 loop-again : tie.Need-loop-again Inv-loop μ-loop
 loop-again c =
-    let start = c .before .before .before .before in
-    let here = c .before .before .before .loop in
+    let start = c .before .before .before .before .before in
+    let here = c .before .before .before .before .loop in
+    let asked = c .before .is-at-work in
     let eight : length (start .args .t1) ≡ 8 = start .good .0 .1 .0 .1 in (
       omega arith,
-      length-set (here .working) (here .c) (c .is-at-work .result) ∙ here .inv .1,
-      marked (start .args .t1) (here .working) (here .c) (c .is-at-work .result) (omega arith) (omega arith) (c .is-at-work .ensures)
-          (here .inv .2),
+      rw (c .with-mark .ensures)
+          (marked (start .args .t1) (marksOf (here .working)) (here .c) (asked .result) (omega (arith, eight-in (here .working))) (omega arith) (asked .ensures)
+          (here .inv .1)),
     )
 
 returns : tie.Need-returns Inv-loop μ-loop
 returns c =
     let seats = c .before .before .args .t1 in
-    let working = c .before .loop .working in
+    let working = marksOf (c .before .loop .working) in
     let eight : length seats ≡ 8 = c .before .before .good .0 .1 .0 .1 in
     let all : c .before .loop .c ≡ 8 = omega arith in
-    let same : take 8 working ≡ take 8 (marks seats) = rw all at (c .before .loop .inv .2) in
+    let same : take 8 working ≡ take 8 (marks seats) = rw all at (c .before .loop .inv .1) in
     let short : length (marks seats) ≤ 8 = rw length-map (omega arith) in
-    sym (take-all 8 working (omega arith)) ∙ same ∙ take-all 8 (marks seats) short
+    sym (take-all 8 working (omega (arith, eight-in (c .before .loop .working)))) ∙ same ∙ take-all 8 (marks seats) short
 
 pub seats-at-work-spec : {M : Type 1} → statement M
 seats-at-work-spec =
@@ -81,7 +84,7 @@ seats-at-work-spec =
     mul-is-at-work
     array-copy-out-is-at-work
     is-at-work-requires
-    array-write-working
+    with-mark-requires
     add-c
     loop-less
     loop-again
