@@ -15,7 +15,9 @@ use Rattle.catalogue.specs.Rule.{Rule}
 use Rattle.catalogue.specs.Catalogue.{Catalogue, width, isEmpty, ruleRead, rulesRead, rulesOf}
 use Rattle.catalogue.specs.Fault.{rulesFault, faultOf}
 use Rattle.catalogue.specs.Every.{Every}
+use Rattle.catalogue.specs.Starts.{FeaturesBelow}
 use Rattle.catalogue.specs.Format.{ruleWritten, written, WellFormed, Accepted}
+use Rattle.catalogue.proofs.Every.{every-weaken}
 use Rattle.catalogue.proofs.Inversion.{orElse-zero}
 use Rattle.catalogue.proofs.Faultless.{sizesFault-every, every-sizesFault, fault-zero, faultless-zero}
 use Rattle.catalogue.proofs.Format.OneRule.{rule-read, rule-front, rule-written, rule-back, rest-back}
@@ -105,3 +107,10 @@ accepted-fault catalogue a =
 
 pub accepted-iff : (catalogue : Catalogue) → (faultOf catalogue ≡ 0) ↔ Accepted catalogue
 accepted-iff catalogue = (fault-accepted catalogue, accepted-fault catalogue)
+
+-- the features that rules name are those of the catalogue, at most 16
+pub fault-below : (catalogue : Catalogue) → faultOf catalogue ≡ 0 → FeaturesBelow 16 (rulesRead 64 (catalogue .list))
+fault-below catalogue h =
+    let f = fault-zero catalogue h in
+    let r = reads-written 64 (catalogue .sizes) (catalogue .list) (f .rules-fit) in
+    every-weaken (λ (rule : Rule) w. every-weaken (λ (feature : ℕ) l. omega (arith, f .few-features)) (w .known)) (r .well-formed)

@@ -1,13 +1,14 @@
 -- What one turn of each walk over features, options and rows changes: the definition of what is left splits into its
 -- first entry and the definition of the rest, and at the end of the walk nothing is left.
-use Prim.Native.Nat.{ℕ, zero, suc, _+_, _-_, _*_, _≤_, _<_, max}
+use Prim.Native.Nat.{ℕ, zero, suc, _+_, _*_, _≤_, _<_, max}
 use mathlib.Core.Path.{_≡_, refl}
-use mathlib.Core.Bool.{true, false, _||_}
+use mathlib.Core.Bool.{Bool, true, false}
 use mathlib.Core.List.{List, [], _∷_}
-use native.Mathlib.Numerals.{add-one, sub-one}
-use native.Mathlib.Nat.{add-comm, mul-suc, not-suc-le-zero, le-of-suc-le-suc}
-use lib.ListN.{length, getD, take, drop, drop-of-length-le}
-use lib.Seq.{drop-cons}
+use native.Mathlib.Numerals.{add-one}
+use native.Mathlib.Nat.{mul-suc, not-suc-le-zero, le-of-suc-le-suc}
+use native.Mathlib.Omega.{arith}
+use lib.ListN.{length, getD, take, drop, length-take, length-drop, drop-of-length-le}
+use lib.Seq.{drop-cons, drop-drop}
 use borrow.Author.Tests.{eq-eqb, ne-eqb}
 use Rattle.catalogue.specs.Rule.{highest, optionAt, optionsAt, matches, someRow}
 use Rattle.catalogue.specs.Catalogue.{rowsRead}
@@ -45,18 +46,35 @@ pub matches-end : (row features placed : List ℕ) (i : ℕ) → length row ≤ 
 unfolding matches optionsAt
 matches-end row features placed i h k = rw (drop-of-length-le row h, drop-of-length-le features k)
 
--- a count that falls by one
-pub product-step : (k left : ℕ) → 0 < left → k * left ≡ k + k * (left - 1)
-product-step k zero h = absurd (not-suc-le-zero h)
-product-step k (suc left) h = rw (sub-one, mul-suc) (add-comm (k * left) k)
+-- the row of k numbers at a place
+pub row-length : (rows : List ℕ) (place k : ℕ) → place + k ≤ length rows → length (take k (drop place rows)) ≡ k
+row-length rows place k within = simp (length-take, length-drop) (omega arith)
 
-pub rows-step : (k left : ℕ) (list options : List ℕ) → 0 < left
-    → someRow (rowsRead k left list) options
-    ≡ (matches (take k list) options || someRow (rowsRead k (left - 1) (drop k list)) options)
-unfolding someRow rowsRead
-rows-step k zero list options h = absurd (not-suc-le-zero h)
-rows-step k (suc left) list options h = rw sub-one
+-- the walk over the rows, k numbers each, has come to a place: what is left are whole rows, and some row matches when one
+-- of those does
+pub data RowsLeft (k : ℕ) (rows options : List ℕ) (answer : Bool) (place : ℕ) : Type 0 where
+  these : (left : ℕ) → place + k * left ≡ length rows → someRow (rowsRead k left (drop place rows)) options ≡ answer
+      → RowsLeft k rows options answer place
 
-pub rows-end : (k left : ℕ) (list options : List ℕ) → left ≡ 0 → someRow (rowsRead k left list) options ≡ false
-unfolding someRow rowsRead
-rows-end k left list options e = rw e
+module _ {k : ℕ} {rows options : List ℕ} {answer : Bool} {place : ℕ} where
+  pub row-here : RowsLeft k rows options answer place → place < length rows → place + k ≤ length rows
+  row-here (RowsLeft.these zero e s) h = absurd (omega arith)
+  row-here (RowsLeft.these (suc left) e s) h = omega (arith, mul-suc k left)
+
+  pub row-found : RowsLeft k rows options answer place → place < length rows
+      → matches (take k (drop place rows)) options ≡ true → true ≡ answer
+  unfolding someRow rowsRead
+  row-found (RowsLeft.these zero e s) h m = absurd (omega arith)
+  row-found (RowsLeft.these (suc left) e s) h m = rw m at s
+
+  pub row-passed : RowsLeft k rows options answer place → place < length rows
+      → matches (take k (drop place rows)) options ≡ false → RowsLeft k rows options answer (place + k)
+  unfolding someRow rowsRead
+  row-passed (RowsLeft.these zero e s) h m = absurd (omega arith)
+  row-passed (RowsLeft.these (suc left) e s) h m =
+      RowsLeft.these left (omega (arith, mul-suc k left)) (rw (m, drop-drop) at s)
+
+  pub no-row-left : RowsLeft k rows options answer place → 1 ≤ k → length rows ≤ place → false ≡ answer
+  unfolding someRow rowsRead
+  no-row-left (RowsLeft.these zero e s) k-low h = s
+  no-row-left (RowsLeft.these (suc left) e s) k-low h = absurd (omega (arith, mul-suc k left))

@@ -1,8 +1,8 @@
 -- The places that `startsFrom` finds: the rules that begin there are those tested at the feature, and each lies whole in
--- the list.
+-- the list and names features below a bound where all rules do.
 use Prim.Native.Nat.{ℕ, zero, suc, _+_, _-_, _≤_, _<_}
 use mathlib.Core.Path.{_≡_, refl}
-use mathlib.Core.Bool.{Bool, true, false, cond, _&&_, _||_}
+use mathlib.Core.Bool.{Bool, true, false, cond, _&&_}
 use mathlib.Core.List.{List, [], _∷_}
 use native.Mathlib.Numerals.{add-one}
 use lib.ListN.{length, getD, drop, drop-of-length-le}
@@ -10,9 +10,9 @@ use lib.Seq.{drop-cons, drop-drop}
 use lib.Dec.{eqb}
 use Rattle.catalogue.specs.Rule.{Rule, highest, rulesAt, satisfies, satisfiesAll, passes}
 use Rattle.catalogue.specs.Catalogue.{width, featuresRead, isEmpty, ruleRead, rulesRead}
-use Rattle.catalogue.specs.Starts.{wholeRule, wholeRules, startsFrom, startsAt, rulesFrom}
+use Rattle.catalogue.specs.Starts.{wholeRule, wholeRules, EachBelow, FeaturesBelow, startsFrom, startsAt, rulesFrom}
 use Rattle.catalogue.specs.Every.{Every, none, also}
-use Rattle.catalogue.proofs.Every.{every-at}
+use Rattle.catalogue.proofs.Every.{every-at, every-head, every-tail}
 use Rattle.catalogue.proofs.WholeRule.{both}
 
 -- ---- the rules that begin at the places found
@@ -57,20 +57,18 @@ pub passes-end : (rules starts placed : List ℕ) (i : ℕ) → length starts �
 unfolding satisfiesAll rulesFrom
 passes-end rules starts placed i h = rw (drop-of-length-le starts h)
 
--- ---- each lies whole in the list
+-- ---- what holds of each of them
+
+-- of a place with a rule, and of the places after it
+every-start : (P : ℕ → Type 0) (empty tested : Bool) (place : ℕ) (places : List ℕ)
+    → (empty ≡ false → P place × Every P places)
+    → Every P (cond empty [] (cond tested (place ∷ places) places))
+every-start P true tested place places holds = none
+every-start P false true place places holds = also (holds refl .0) (holds refl .1)
+every-start P false false place places holds = holds refl .1
 
 abbrev WholeAt : List ℕ → ℕ → Type 0
 WholeAt list place = wholeRule (drop place list) ≡ true
-
-whole-step : (empty tested fits more : Bool) (list places : List ℕ) (place : ℕ)
-    → (empty || (fits && more)) ≡ true
-    → (fits ≡ true → WholeAt list place)
-    → (more ≡ true → Every (WholeAt list) places)
-    → Every (WholeAt list) (cond empty [] (cond tested (place ∷ places) places))
-whole-step true tested fits more list places place e here there = none
-whole-step false true fits more list places place e here there =
-    also (here (both fits more e .0)) (there (both fits more e .1))
-whole-step false false fits more list places place e here there = there (both fits more e .1)
 
 starts-whole : (n : ℕ) (list : List ℕ) (place j : ℕ) → wholeRules n (drop place list) ≡ true
     → Every (WholeAt list) (startsFrom n list place j)
@@ -78,13 +76,33 @@ unfolding startsFrom wholeRules
 starts-whole zero list place j e = none
 starts-whole (suc n) list place j e =
     let here = drop place list in
-    whole-step (isEmpty here) (eqb (highest (featuresRead here)) j) (wholeRule here) (wholeRules n (drop (width here) here)) list
+    every-start (WholeAt list) (isEmpty here) (eqb (highest (featuresRead here)) j) place
     (startsFrom n list (place + width here) j)
-    place
-    e
-    (λ w. w)
-    (λ w. starts-whole n list (place + width here) j (rw drop-drop at w))
+    (λ some.
+    let t = both (wholeRule here) (wholeRules n (drop (width here) here)) (rw some at e) in
+    (t .0, starts-whole n list (place + width here) j (rw drop-drop at (t .1))))
 
 pub start-whole : (rules starts : List ℕ) (j i : ℕ) → wholeRules 64 rules ≡ true → starts ≡ startsAt rules j → i < length starts
     → wholeRule (drop (getD starts i 0) rules) ≡ true
 start-whole rules starts j i e s h = rw s (every-at (starts-whole 64 rules 0 j e) 0 i (rw s at h))
+
+abbrev BelowAt : ℕ → List ℕ → ℕ → Type 0
+BelowAt count list place = EachBelow count (featuresRead (drop place list))
+
+starts-below : (count n : ℕ) (list : List ℕ) (place j : ℕ) → FeaturesBelow count (rulesRead n (drop place list))
+    → Every (BelowAt count list) (startsFrom n list place j)
+unfolding startsFrom rulesRead ruleRead
+starts-below count zero list place j b = none
+starts-below count (suc n) list place j b =
+    let here = drop place list in
+    every-start (BelowAt count list) (isEmpty here) (eqb (highest (featuresRead here)) j) place
+    (startsFrom n list (place + width here) j)
+    (λ some.
+    let t = rw some at b in
+    (every-head t, starts-below count n list (place + width here) j (rw drop-drop at (every-tail t))))
+
+pub start-below : (count : ℕ) (rules starts : List ℕ) (j i : ℕ) → FeaturesBelow count (rulesRead 64 rules)
+    → starts ≡ startsAt rules j
+    → i < length starts
+    → EachBelow count (featuresRead (drop (getD starts i 0) rules))
+start-below count rules starts j i b s h = rw s (every-at (starts-below count 64 rules 0 j b) 0 i (rw s at h))

@@ -6,8 +6,9 @@ use mathlib.Core.Bool.{Bool, cond, _&&_, _||_}
 use mathlib.Core.List.{List, [], _∷_}
 use lib.ListN.{length, getD, take, drop}
 use lib.Dec.{leb, eqb}
-use Rattle.catalogue.specs.Rule.{Rule, highest}
-use Rattle.catalogue.specs.Catalogue.{arity, width, featuresRead, isEmpty, ruleRead}
+use Rattle.catalogue.specs.Every.{Every}
+use Rattle.catalogue.specs.Rule.{Rule, highest, someRow}
+use Rattle.catalogue.specs.Catalogue.{arity, width, featuresRead, rowsRead, isEmpty, ruleRead}
 
 -- the rule at the front of a list has an arity of 1 to 6 and lies in the list whole
 abbrev pub wholeRule : List ℕ → Bool
@@ -17,6 +18,22 @@ wholeRule list = leb 2 (length list) && (leb 1 (arity list) && (leb (arity list)
 unfoldable pub wholeRules : ℕ → List ℕ → Bool
 wholeRules zero list = isEmpty list
 wholeRules (suc n) list = isEmpty list || (wholeRule list && wholeRules n (drop (width list) list))
+
+-- each of these features is below n
+abbrev pub EachBelow : ℕ → List ℕ → Type 0
+EachBelow n features = Every (λ (feature : ℕ). feature < n) features
+
+-- each feature of each of these rules is below n
+abbrev pub FeaturesBelow : ℕ → List Rule → Type 0
+FeaturesBelow n rules = Every (λ (rule : Rule). EachBelow n (rule .features)) rules
+
+-- a list is whole rows of k options, one after another
+abbrev pub WholeRows : ℕ → List ℕ → Type 0
+WholeRows k list = (count : ℕ) × (k * count ≡ length list)
+
+-- the answer to the row test over such a list, at the count of rows that makes up its length
+abbrev pub RowTest : ℕ → List ℕ → List ℕ → Bool → Type 0
+RowTest k list options answer = (count : ℕ) → k * count ≡ length list → answer ≡ someRow (rowsRead k count list) options
 
 -- where the rules begin whose highest feature is j, of at most n rules from a place in the list on
 unfoldable pub startsFrom : ℕ → List ℕ → ℕ → ℕ → List ℕ

@@ -1,18 +1,19 @@
 // The test of what is placed against the rules of a feature. The list has passed `fault`; of that, what these
-// functions need is that each rule lies in it whole.
+// functions need is that each rule lies in it whole and names no feature past the end of what is placed.
 use crate::numbers::wide;
 ghost use mathlib.Core.Path.{_≡_};
 ghost use mathlib.Core.Bool.{true};
-ghost use Prim.Native.Nat.{_≤_, _*_};
+ghost use Prim.Native.Nat.{_≤_, _<_};
 ghost use lib.ListN.{length, getD, replicate};
-ghost use Rattle.catalogue.specs.Rule.{highest, matches, someRow, optionAt, optionsAt, satisfies, passes};
-ghost use Rattle.catalogue.specs.Catalogue.{rowsRead, ruleRead, rulesRead};
-ghost use Rattle.catalogue.specs.Starts.{wholeRule, wholeRules, startsAt, AllStarts};
+ghost use Rattle.catalogue.specs.Rule.{highest, matches, optionAt, optionsAt, satisfies, passes};
+ghost use Rattle.catalogue.specs.Catalogue.{featuresRead, ruleRead, rulesRead};
+ghost use Rattle.catalogue.specs.Starts.{wholeRule, wholeRules, EachBelow, FeaturesBelow, WholeRows, RowTest, startsAt, AllStarts};
 
 // Whether what is placed passes the test at feature j: it satisfies each rule whose highest-numbered feature is j.
 pub fn passes(rules: &[u16], j: usize, starts: &[u16], placed: &[u8]) -> bool
     requires { ⌜ wholeRules 64 (now rules) ≡ true ⌝ }
     requires { ⌜ now starts ≡ startsAt (now rules) j ⌝ }
+    requires { ⌜ FeaturesBelow (length (now placed)) (rulesRead 64 (now rules)) ⌝ }
     ensures { λ r. ⌜ r ≡ passes (rulesRead 64 (now (rules .entry))) j (now (placed .entry)) ⌝ }
 {
     let mut i = 0;
@@ -67,41 +68,37 @@ fn highest(features: &[u16]) -> usize
 
 // Whether what is placed satisfies the rule at the front of the list.
 fn satisfied(list: &[u16], placed: &[u8]) -> bool
-    requires { ⌜ wholeRule (now list) ≡ true ⌝ }
+    requires { ⌜ (wholeRule (now list) ≡ true) × EachBelow (length (now placed)) (featuresRead (now list)) ⌝ }
     ensures { λ r. ⌜ r ≡ satisfies (now (placed .entry)) (ruleRead (now (list .entry))) ⌝ }
 {
     let k = wide(list[0]);
     let m = wide(list[1]);
     let body = 2 + k;
     let end = body + k * m;
-    some_row(&list[body..end], m, &list[2..body], placed)
+    some_row(&list[body..end], &list[2..body], placed)
 }
 
 fn option_at(placed: &[u8], feature: usize) -> u16
+    requires { ⌜ feature < length (now placed) ⌝ }
     ensures { λ r. ⌜ r ≡ optionAt (now (placed .entry)) feature ⌝ }
 {
-    if feature < placed.len() {
-        placed[feature] as u16
-    } else {
-        255
-    }
+    placed[feature] as u16
 }
 
 // The row test: whether one of the rows, which stand one after another, matches what is placed at the features.
-fn some_row(rows: &[u16], count: usize, features: &[u16], placed: &[u8]) -> bool
-    requires { ⌜ (length (now features) * count ≡ length (now rows)) × (1 ≤ length (now features)) ⌝ }
-    ensures { λ r. ⌜ r ≡ someRow (rowsRead (length (now (features .entry))) count (now (rows .entry))) (optionsAt (now (placed .entry)) (now (features .entry))) ⌝ }
+fn some_row(rows: &[u16], features: &[u16], placed: &[u8]) -> bool
+    requires { ⌜ (1 ≤ length (now features)) × WholeRows (length (now features)) (now rows) ⌝ }
+    requires { ⌜ EachBelow (length (now placed)) (now features) ⌝ }
+    ensures { λ r. ⌜ RowTest (length (now (features .entry))) (now (rows .entry)) (optionsAt (now (placed .entry)) (now (features .entry))) r ⌝ }
 {
     let first = option_at(placed, wide(features[0]));
-    let mut left = count;
     let mut place = 0;
-    while 0 < left {
+    while place < rows.len() {
         let end = place + features.len();
         if row_matches(&rows[place..end], first, features, placed) {
             return true;
         }
         place = end;
-        left -= 1;
     }
     false
 }
@@ -109,6 +106,7 @@ fn some_row(rows: &[u16], count: usize, features: &[u16], placed: &[u8]) -> bool
 // The option at the first feature is looked up once for all rows, since most rows differ there already.
 fn row_matches(row: &[u16], first: u16, features: &[u16], placed: &[u8]) -> bool
     requires { ⌜ (length (now row) ≡ length (now features)) × (1 ≤ length (now features)) × (first ≡ optionAt (now placed) (getD (now features) 0 0)) ⌝ }
+    requires { ⌜ EachBelow (length (now placed)) (now features) ⌝ }
     ensures { λ r. ⌜ r ≡ matches (now (row .entry)) (optionsAt (now (placed .entry)) (now (features .entry))) ⌝ }
 {
     if row[0] != first {

@@ -12,6 +12,7 @@
 mod answers;
 mod calls;
 mod checks;
+mod layout;
 mod reading;
 mod ring;
 

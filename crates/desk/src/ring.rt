@@ -3,7 +3,11 @@ use crate::Desk;
 use crate::answers::Turned;
 use crate::checks::is_at_work;
 use crate::checks::turns_number;
+use crate::layout::gathered;
+use crate::layout::lay_out;
+use crate::layout::states_of;
 use seat::Seat;
+use seat::State;
 ghost use mathlib.Core.Path.{_≡_};
 ghost use mathlib.Core.Bool.{true};
 ghost use mathlib.Core.List.{map};
@@ -12,6 +16,7 @@ ghost use lib.ListN.{length, set};
 ghost use Rattle.catalogue.specs.Fault.{faultOf};
 ghost use Rattle.catalogue.specs.Starts.{AllStarts};
 ghost use Rattle.seat.specs.declared.Seat.{Seat};
+ghost use Rattle.seat.specs.Clinic.{recordOf, clinicOf};
 ghost use Rattle.seat.specs.Fit.{seatFits};
 ghost use Rattle.seat.specs.Step.{step};
 ghost use Rattle.desk.specs.Call.{turns};
@@ -43,7 +48,8 @@ pub fn turns(desk: Desk, board: &mut [u8], sizes: &[u8], rules: &[u16], w: u16) 
     make_turns(desk, board, sizes, rules, w)
 }
 
-// On a board and with a catalogue and a desk that passed the checks.
+// On a board and with a catalogue and a desk that passed the checks. The records are laid out once for all turns of the
+// call, so that a step changes its seat's masks and trial where they stand.
 fn make_turns(desk: Desk, board: &mut [u8], sizes: &[u8], rules: &[u16], w: u16) -> Turned
     requires { ⌜ (length (now board) ≡ 32768) × (faultOf (record { sizes = now sizes; list = now rules }) ≡ 0) ⌝ }
     requires { ⌜ deskFits (record { sizes = now sizes; list = now rules }) desk ≡ true ⌝ }
@@ -52,55 +58,89 @@ fn make_turns(desk: Desk, board: &mut [u8], sizes: &[u8], rules: &[u16], w: u16)
     let mut places = [0u16; 1024];
     let mut counts = [0u8; 16];
     catalogue::starts_of(rules, &mut places, &mut counts);
-    let mut seats = desk.seats;
-    let mut next = desk.next;
+    let seats = desk.seats;
+    let mut choices = [0u8; 128];
+    let mut masks = [0u16; 128];
+    let mut trials = [0u8; 128];
+    lay_out(seats, &mut choices, &mut masks, &mut trials);
+    let mut states = states_of(seats);
     let mut working = seats_at_work(seats);
+    let mut next = desk.next;
     let mut made = 0u16;
     while made < w {
         let Found::At(c) = first_at_work(working, next as usize) else {
             break;
         };
+        let own = c * 16;
         let from = c * 4096;
-        let after = (c + 1) % 8;
-        let seat = stepped(
-            seats[c],
+        let state = stepped(
+            states[c],
+            &choices[own..own + 16],
+            &mut masks[own..own + 16],
+            &mut trials[own..own + 16],
             &mut board[from..from + 4096],
             sizes,
             rules,
             &places,
             &counts,
         );
-        working = with_mark(working, c, is_at_work(seat));
-        seats[c] = seat;
-        next = after as u8;
+        states[c] = state;
+        next = ((c + 1) % 8) as u8;
         made += 1;
+        let State::AtWork(_) = state else {
+            working = with_mark(working, c, false);
+            continue;
+        };
     }
-    let found = first_at_work(working, next as usize);
+    let seats = gathered(states, &choices, &masks, &trials);
+    turned(made, working, Desk { seats, next })
+}
+
+// The answer of an accepted call.
+fn turned(made: u16, marks: u8, desk: Desk) -> Turned
+    requires { ⌜ desk .next < 8 ⌝ }
+    ensures { λ r. ⌜ r ≡ record { number = 0; made = made; working = isSome (trueFrom 8 (marksOf marks) (desk .next)); desk = desk } ⌝ }
+{
+    let found = first_at_work(marks, desk.next as usize);
     Turned {
         number: 0,
         made,
         working: is_someone(found),
-        desk: Desk { seats, next },
+        desk,
     }
 }
 
-// One step for the seat that is served: its record is lent for the step, and handed back as the step left it.
+// One step for the seat that is served: its state is lent for the step, and handed back as the step left it; its masks and
+// trial are changed where they stand.
 fn stepped(
-    mut seat: Seat,
+    mut state: State,
+    choices: &[u8],
+    masks: &mut [u16],
+    trial: &mut [u8],
     share: &mut [u8],
     sizes: &[u8],
     rules: &[u16],
     places: &[u16],
     counts: &[u8],
-) -> Seat
+) -> State
     requires { ⌜ faultOf (record { sizes = now sizes; list = now rules }) ≡ 0 ⌝ }
-    requires { ⌜ seatFits (record { sizes = now sizes; list = now rules }) seat ≡ true ⌝ }
-    requires { ⌜ length (now share) ≡ 4096 ⌝ }
+    requires { ⌜ seatFits (record { sizes = now sizes; list = now rules }) (recordOf state (now choices) (now masks) (now trial)) ≡ true ⌝ }
+    requires { ⌜ (length (now choices) ≡ 16) × (length (now masks) ≡ 16) × (length (now trial) ≡ 16) × (length (now share) ≡ 4096) ⌝ }
     requires { ⌜ AllStarts (now rules) (now places) (now counts) ⌝ }
-    ensures { λ r. ⌜ record { seat = r; share = now (share .exit) } ≡ step (record { sizes = now (sizes .entry); list = now (rules .entry) }) (record { seat = seat; share = now (share .entry) }) ⌝ }
+    ensures { λ r. ⌜ clinicOf r (now (choices .entry)) (now (masks .exit)) (now (trial .exit)) (now (share .exit)) ≡ step (record { sizes = now (sizes .entry); list = now (rules .entry) }) (clinicOf state (now (choices .entry)) (now (masks .entry)) (now (trial .entry)) (now (share .entry))) ⌝ }
 {
-    seat::step_in(&mut seat, share, sizes, rules, places, counts);
-    seat
+    seat::step_in(
+        &mut state,
+        choices,
+        masks,
+        trial,
+        share,
+        sizes,
+        rules,
+        places,
+        counts,
+    );
+    state
 }
 
 // Which of the eight seats are at work: the bits of a byte, that of seat 0 lowest.

@@ -2,7 +2,6 @@
 --   Handed: a refused call leaves all as it came; an unknown state is number 20; calls one after another are the desk's own
 --   Settled: of each call any two outcomes that its contract allows are equal
 --   ThereAndBack: the two conversions undo each other
-pub mod Mapped
 pub mod KnownStates
 pub mod ThroughDoor
 pub mod StandingExample

@@ -3,7 +3,7 @@
 --   FirstBuild: one pair's search finds the first build in dictionary order that has the option, or there is none
 --   JobSteps: a job is at its end after just K steps, and at work before
 --   JobResult: what masks and share hold then
--- LentRecord is apart: what the walks of the functions that lend a record share.
+-- LentState is apart: what the walks of the functions that lend a state share.
 pub mod Bits
 pub mod NoBits
 pub mod Fits
@@ -38,4 +38,4 @@ pub mod Completions
 pub mod FirstBuild
 pub mod ReadyOnce
 pub mod ReadyJob
-pub mod LentRecord
+pub mod LentState

@@ -1,10 +1,10 @@
--- The enums of the code as the definitions have them; no promise cites this file.
+-- The enums of the code as the definitions have them, and what inner functions say; no promise cites this file.
 use Prim.Native.Nat.{ℕ}
+use mathlib.Core.Bool.{Bool, true, cond}
 use mathlib.Core.List.{List}
+use lib.ListN.{getD}
+use lib.Dec.{ltb, eqb}
 use mathlib.Core.Option.{Option, none, some}
-use Rattle.seat.specs.declared.Place.{Place}
-use Rattle.seat.specs.declared.State.the-variants.{AtWork}
-use Rattle.seat.specs.declared.Seat.{Seat}
 use Rattle.seat.specs.declared.candidates.Next.{Next}
 use Rattle.seat.specs.declared.candidates.Next.the-variants.{Candidate, Nothing}
 use Rattle.seat.specs.declared.search.Way.{Way}
@@ -20,6 +20,9 @@ triedOf (GoOn depth next) trial = goOn depth next trial
 triedOf Build trial = build trial
 triedOf Exhausted trial = exhausted
 
--- the record of a seat at work
-abbrev pub atWork : Place → List ℕ → List ℕ → List ℕ → Seat
-atWork place choices masks trial = record { state = AtWork place; choices = choices; masks = masks; trial = trial }
+-- `entryFits` in two halves: the entries from the depth on, and those before it
+abbrev pub restFits : ℕ → List ℕ → ℕ → Bool
+restFits depth trial f = cond (ltb f depth) true (eqb (getD trial f 255) 255)
+
+abbrev pub placedFits : List ℕ → ℕ → List ℕ → ℕ → Bool
+placedFits sizes depth trial f = cond (ltb f depth) (ltb (getD trial f 255) (getD sizes f 0)) true

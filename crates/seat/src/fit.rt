@@ -3,12 +3,12 @@ use crate::Place;
 use crate::Seat;
 use crate::State;
 ghost use mathlib.Core.Path.{_≡_};
-ghost use mathlib.Core.Bool.{cond, _&&_};
+ghost use mathlib.Core.Bool.{_&&_};
 ghost use Prim.Native.Nat.{_<_};
 ghost use lib.ListN.{length, getD};
-ghost use lib.Dec.{ltb, eqb};
 ghost use Rattle.catalogue.specs.Fault.{faultOf, sizesFault};
-ghost use Rattle.seat.specs.Fit.{everyBelow, choiceFits, maskFits, entryFits, emptyAt, placeFits, seatFits};
+ghost use Rattle.seat.specs.Fit.{everyBelow, choiceFits, maskFits, emptyAt, placeFits, seatFits, entryFits};
+ghost use Rattle.seat.specs.Ways.{restFits, placedFits};
 
 // Whether a record fits a catalogue without a fault. A closed seat is empty, and what is empty fits any sizes.
 pub fn seat_fits(seat: Seat, sizes: &[u8], rules: &[u16]) -> bool
@@ -36,7 +36,7 @@ pub fn seat_fits(seat: Seat, sizes: &[u8], rules: &[u16]) -> bool
     }
 }
 
-// What is asked of the choices, masks and trial of every seat.
+// What is asked of the choices, masks and trial of an open seat.
 fn open_fits(choices: &[u8], masks: &[u16], trial: &[u8], depth: usize, sizes: &[u8]) -> bool
     requires { ⌜ (length (now choices) ≡ 16) × (length (now masks) ≡ 16) × (length (now trial) ≡ 16) × (sizesFault (now sizes) ≡ 0) ⌝ }
     ensures { λ r. ⌜ r ≡ (everyBelow 16 (choiceFits (now (sizes .entry)) (now (choices .entry))) && everyBelow 16 (maskFits (now (sizes .entry)) (now (masks .entry))) && everyBelow 16 (entryFits (now (sizes .entry)) depth (now (trial .entry)))) ⌝ }
@@ -89,9 +89,40 @@ fn trial_fits(trial: &[u8], depth: usize, sizes: &[u8]) -> bool
     requires { ⌜ length (now trial) ≡ 16 ⌝ }
     ensures { λ r. ⌜ r ≡ everyBelow 16 (entryFits (now (sizes .entry)) depth (now (trial .entry))) ⌝ }
 {
+    if !rest_empty(trial, depth) {
+        return false;
+    }
+    placed_fit(trial, depth, sizes)
+}
+
+// No early exit, so that the entries of a seat that is not at work, all of them from depth 0 on, are compared at once.
+fn rest_empty(trial: &[u8], depth: usize) -> bool
+    requires { ⌜ length (now trial) ≡ 16 ⌝ }
+    ensures { λ r. ⌜ r ≡ everyBelow 16 (restFits depth (now (trial .entry))) ⌝ }
+{
+    let mut empty = true;
     let mut f = 0usize;
     while f < 16 {
-        if !entry_fits(trial[f], f < depth, size_at(sizes, f)) {
+        if depth <= f {
+            if trial[f] != 255 {
+                empty = false;
+            }
+        }
+        f += 1;
+    }
+    empty
+}
+
+fn placed_fit(trial: &[u8], depth: usize, sizes: &[u8]) -> bool
+    requires { ⌜ length (now trial) ≡ 16 ⌝ }
+    ensures { λ r. ⌜ r ≡ everyBelow 16 (placedFits (now (sizes .entry)) depth (now (trial .entry))) ⌝ }
+{
+    let mut f = 0usize;
+    while f < 16 {
+        if depth <= f {
+            return true;
+        }
+        if size_at(sizes, f) <= trial[f] {
             return false;
         }
         f += 1;
@@ -99,31 +130,23 @@ fn trial_fits(trial: &[u8], depth: usize, sizes: &[u8]) -> bool
     true
 }
 
-fn entry_fits(entry: u8, before: bool, size: u8) -> bool
-    ensures { λ r. ⌜ r ≡ cond before (ltb entry size) (eqb entry 255) ⌝ }
-{
-    if before {
-        return entry < size;
-    }
-    entry == 255
-}
-
-// No choice, and no mask bit.
+// No choice, and no mask bit. No early exit, as for the trial.
 fn all_empty(choices: &[u8], masks: &[u16]) -> bool
     requires { ⌜ (length (now choices) ≡ 16) × (length (now masks) ≡ 16) ⌝ }
     ensures { λ r. ⌜ r ≡ everyBelow 16 (emptyAt (now (choices .entry)) (now (masks .entry))) ⌝ }
 {
+    let mut empty = true;
     let mut f = 0usize;
     while f < 16 {
         if choices[f] != 255 {
-            return false;
+            empty = false;
         }
         if masks[f] != 0 {
-            return false;
+            empty = false;
         }
         f += 1;
     }
-    true
+    empty
 }
 
 fn place_fits(place: Place, sizes: &[u8], rules: &[u16]) -> bool

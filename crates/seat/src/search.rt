@@ -1,6 +1,5 @@
 // One step of the written search.
 use crate::Place;
-use crate::Seat;
 use crate::State;
 use crate::candidates::Next;
 use crate::candidates::first_candidate;
@@ -14,11 +13,12 @@ ghost use lib.ListN.{length, getD, set};
 ghost use Rattle.catalogue.specs.Fault.{faultOf};
 ghost use Rattle.seat.specs.Candidates.{chosenOtherwise};
 ghost use Rattle.seat.specs.Bits.{withBit};
-ghost use Rattle.seat.specs.Clinic.{nothing16, put, examplePlace};
+ghost use Rattle.seat.specs.Clinic.{recordOf, clinicOf, nothing16, put, examplePlace};
 ghost use Rattle.seat.specs.Step.{givenUp, tried, started, afterPair, stepAt, step};
 ghost use Rattle.seat.specs.Fit.{seatFits, placeFits};
 ghost use Rattle.catalogue.specs.Starts.{AllStarts};
-ghost use Rattle.seat.specs.Ways.{triedOf, atWork};
+ghost use Rattle.seat.specs.declared.State.the-variants.{AtWork};
+ghost use Rattle.seat.specs.Ways.{triedOf};
 
 // What comes of trying an option.
 pub enum Way {
@@ -27,57 +27,12 @@ pub enum Way {
     Exhausted,
 }
 
-// One step for a seat at work: record and share of the written search after it.
+// One step: state, masks, trial and share of the written search after it. A seat that is not at work makes none.
 pub fn step(
-    seat: Seat,
-    share: &mut [u8],
-    sizes: &[u8],
-    rules: &[u16],
-    places: &[u16],
-    counts: &[u8],
-) -> Seat
-    requires { ⌜ faultOf (record { sizes = now sizes; list = now rules }) ≡ 0 ⌝ }
-    requires { ⌜ seatFits (record { sizes = now sizes; list = now rules }) seat ≡ true ⌝ }
-    requires { ⌜ length (now share) ≡ 4096 ⌝ }
-    requires { ⌜ AllStarts (now rules) (now places) (now counts) ⌝ }
-    ensures { λ r. ⌜ record { seat = r; share = now (share .exit) } ≡ step (record { sizes = now (sizes .entry); list = now (rules .entry) }) (record { seat = seat; share = now (share .entry) }) ⌝ }
-{
-    let state = seat.state;
-    match state {
-        State::Closed => seat,
-        State::Ready => seat,
-        State::AtWork(place) => {
-            let choices = seat.choices;
-            let mut masks = seat.masks;
-            let mut trial = seat.trial;
-            let after = step_at(
-                place,
-                &choices,
-                &mut masks,
-                &mut trial,
-                share,
-                sizes,
-                rules,
-                places,
-                counts,
-            );
-            Seat {
-                state: after,
-                choices,
-                masks,
-                trial,
-            }
-        }
-    }
-}
-
-// Rule 1, then the others. Masks and trial are changed where they stand: a record that is made anew for each way on is
-// copied more than once a step.
-fn step_at(
-    place: Place,
+    state: State,
     choices: &[u8],
-    masks: &mut [u16; 16],
-    trial: &mut [u8; 16],
+    masks: &mut [u16],
+    trial: &mut [u8],
     share: &mut [u8],
     sizes: &[u8],
     rules: &[u16],
@@ -85,10 +40,45 @@ fn step_at(
     counts: &[u8],
 ) -> State
     requires { ⌜ faultOf (record { sizes = now sizes; list = now rules }) ≡ 0 ⌝ }
-    requires { ⌜ seatFits (record { sizes = now sizes; list = now rules }) (atWork place (now choices) (now masks) (now trial)) ≡ true ⌝ }
+    requires { ⌜ seatFits (record { sizes = now sizes; list = now rules }) (recordOf state (now choices) (now masks) (now trial)) ≡ true ⌝ }
     requires { ⌜ (length (now choices) ≡ 16) × (length (now masks) ≡ 16) × (length (now trial) ≡ 16) × (length (now share) ≡ 4096) ⌝ }
     requires { ⌜ AllStarts (now rules) (now places) (now counts) ⌝ }
-    ensures { λ r. ⌜ record { seat = record { state = r; choices = now (choices .entry); masks = now (masks .exit); trial = now (trial .exit) }; share = now (share .exit) } ≡ stepAt (record { sizes = now (sizes .entry); list = now (rules .entry) }) place (record { seat = atWork place (now (choices .entry)) (now (masks .entry)) (now (trial .entry)); share = now (share .entry) }) ⌝ }
+    ensures { λ r. ⌜ clinicOf r (now (choices .entry)) (now (masks .exit)) (now (trial .exit)) (now (share .exit)) ≡ step (record { sizes = now (sizes .entry); list = now (rules .entry) }) (clinicOf state (now (choices .entry)) (now (masks .entry)) (now (trial .entry)) (now (share .entry))) ⌝ }
+{
+    match state {
+        State::Closed => state,
+        State::Ready => state,
+        State::AtWork(place) => step_at(
+            place,
+            choices,
+            masks,
+            trial,
+            share,
+            sizes,
+            rules,
+            places,
+            counts,
+        ),
+    }
+}
+
+// Rule 1, then the others. Masks and trial are changed where they stand, so that no record is copied out and back.
+fn step_at(
+    place: Place,
+    choices: &[u8],
+    masks: &mut [u16],
+    trial: &mut [u8],
+    share: &mut [u8],
+    sizes: &[u8],
+    rules: &[u16],
+    places: &[u16],
+    counts: &[u8],
+) -> State
+    requires { ⌜ faultOf (record { sizes = now sizes; list = now rules }) ≡ 0 ⌝ }
+    requires { ⌜ seatFits (record { sizes = now sizes; list = now rules }) (recordOf (AtWork place) (now choices) (now masks) (now trial)) ≡ true ⌝ }
+    requires { ⌜ (length (now choices) ≡ 16) × (length (now masks) ≡ 16) × (length (now trial) ≡ 16) × (length (now share) ≡ 4096) ⌝ }
+    requires { ⌜ AllStarts (now rules) (now places) (now counts) ⌝ }
+    ensures { λ r. ⌜ clinicOf r (now (choices .entry)) (now (masks .exit)) (now (trial .exit)) (now (share .exit)) ≡ stepAt (record { sizes = now (sizes .entry); list = now (rules .entry) }) place (clinicOf (AtWork place) (now (choices .entry)) (now (masks .entry)) (now (trial .entry)) (now (share .entry))) ⌝ }
 {
     let feature = place.feature;
     let option = place.option;
@@ -125,11 +115,12 @@ fn chosen_otherwise(choices: &[u8], feature: u8, option: u8) -> bool
 }
 
 // Rules 2 to 5: the option is placed and tested against each rule whose highest-numbered feature is the depth. The trial
-// is changed where it stands, and no copy of it is handed back.
+// is changed where it stands; it has 255 at the depth, so that an option that fails its test leaves it as it was. Where
+// nothing is left to try it is of no account: `pair_ended` empties it.
 fn try_next(
     place: Place,
     choices: &[u8],
-    trial: &mut [u8; 16],
+    trial: &mut [u8],
     sizes: &[u8],
     rules: &[u16],
     places: &[u16],
@@ -137,7 +128,7 @@ fn try_next(
 ) -> Way
     requires { ⌜ faultOf (record { sizes = now sizes; list = now rules }) ≡ 0 ⌝ }
     requires { ⌜ placeFits (record { sizes = now sizes; list = now rules }) place ≡ true ⌝ }
-    requires { ⌜ (length (now choices) ≡ 16) × (length (now trial) ≡ 16) × ((f : ℕ) → f < place .depth → getD (now trial) f 255 < 255) ⌝ }
+    requires { ⌜ (length (now choices) ≡ 16) × (length (now trial) ≡ 16) × ((f : ℕ) → f < place .depth → getD (now trial) f 255 < 255) × (getD (now trial) (place .depth) 255 ≡ 255) ⌝ }
     requires { ⌜ AllStarts (now rules) (now places) (now counts) ⌝ }
     ensures { λ r. ⌜ (length (now (trial .exit)) ≡ 16) × (triedOf r (now (trial .exit)) ≡ tried (record { sizes = now (sizes .entry); list = now (rules .entry) }) (now (choices .entry)) (place .feature) (place .option) (place .depth) (place .next) (now (trial .entry))) ⌝ }
 {
@@ -146,12 +137,11 @@ fn try_next(
     let next = place.next;
     let i = place.feature as usize;
     let j = depth as usize;
-    let before = trial[j];
     trial[j] = next;
     let from = j * 64;
     let to = from + byte(counts[j]);
     if !catalogue::passes(rules, j, &places[from..to], trial) {
-        trial[j] = before;
+        trial[j] = 255;
         return given_up(sizes, choices, i, option, depth, next, trial);
     }
     if j + 1 == sizes.len() {
@@ -172,7 +162,7 @@ fn given_up(
     option: u8,
     depth: u8,
     v: u8,
-    trial: &mut [u8; 16],
+    trial: &mut [u8],
 ) -> Way
     requires { ⌜ (length (now choices) ≡ 16) × (length (now sizes) ≤ 16) × (depth < length (now sizes)) × (v < 255) ⌝ }
     requires { ⌜ (length (now trial) ≡ 16) × ((f : ℕ) → f < depth → getD (now trial) f 255 < 255) ⌝ }
@@ -198,13 +188,7 @@ fn given_up(
 }
 
 // The example written into the share, the bit set in the mask.
-fn with_example(
-    masks: &mut [u16; 16],
-    share: &mut [u8],
-    feature: u8,
-    option: u8,
-    example: &[u8; 16],
-)
+fn with_example(masks: &mut [u16], share: &mut [u8], feature: u8, option: u8, example: &[u8])
     requires { ⌜ (feature < 16) × (option < 16) × (length (now masks) ≡ 16) × (length (now share) ≡ 4096) × (length (now example) ≡ 16) ⌝ }
     ensures { λ _. ⌜ (now (masks .exit) ≡ set (now (masks .entry)) feature (withBit (getD (now (masks .entry)) feature 0) option)) × (now (share .exit) ≡ put (now (share .entry)) (examplePlace feature option) (now (example .entry))) ⌝ }
 {
@@ -216,7 +200,7 @@ fn with_example(
 }
 
 // A pair ends, and the next starts in the same step; after the last the seat is ready.
-fn pair_ended(trial: &mut [u8; 16], sizes: &[u8], choices: &[u8], feature: u8, option: u8) -> State
+fn pair_ended(trial: &mut [u8], sizes: &[u8], choices: &[u8], feature: u8, option: u8) -> State
     requires { ⌜ (length (now sizes) ≤ 16) × (feature < length (now sizes)) × (option < 16) × (length (now choices) ≡ 16) × (1 ≤ getD (now sizes) 0 0) ⌝ }
     requires { ⌜ length (now trial) ≡ 16 ⌝ }
     ensures { λ r. ⌜ (r ≡ afterPair (now (sizes .entry)) (now (choices .entry)) feature option) × (now (trial .exit) ≡ nothing16) ⌝ }

@@ -16,7 +16,7 @@ pub fn empty(share: &mut [u8])
 }
 
 // Writes sixteen bytes over those that stand from a place on.
-pub fn write_example(share: &mut [u8], place: usize, example: &[u8; 16])
+pub fn write_example(share: &mut [u8], place: usize, example: &[u8])
     requires { ⌜ (length (now example) ≡ 16) × (place + 16 ≤ length (now share)) ⌝ }
     ensures { λ _. ⌜ now (share .exit) ≡ put (now (share .entry)) place (now (example .entry)) ⌝ }
 {
@@ -25,7 +25,7 @@ pub fn write_example(share: &mut [u8], place: usize, example: &[u8; 16])
 }
 
 // Copies sixteen bytes into a part of that length.
-fn copy(into: &mut [u8], example: &[u8; 16])
+fn copy(into: &mut [u8], example: &[u8])
     requires { ⌜ (length (now example) ≡ 16) × (length (now into) ≡ 16) ⌝ }
     ensures { λ _. ⌜ now (into .exit) ≡ now (example .entry) ⌝ }
 {

@@ -7,11 +7,11 @@ use native.Mathlib.Omega.{arith}
 use borrow.Author.Tests.{not-true, not-false}
 use lib.ListN.{length, drop, length-drop}
 use Rattle.catalogue.specs.Rule.{satisfiesAll, passes}
-use Rattle.catalogue.specs.Catalogue.{rulesRead}
-use Rattle.catalogue.specs.Starts.{wholeRule, rulesFrom}
+use Rattle.catalogue.specs.Catalogue.{featuresRead, rulesRead}
+use Rattle.catalogue.specs.Starts.{wholeRule, EachBelow, rulesFrom}
 use Rattle.catalogue.proofs.Steps.{left-lent}
 use Rattle.catalogue.proofs.WholeRule.{whole}
-use Rattle.catalogue.proofs.Starts.{passes-by-starts, passes-step, passes-end, start-whole}
+use Rattle.catalogue.proofs.Starts.{passes-by-starts, passes-step, passes-end, start-whole, start-below}
 use borrow.Author.Needs.{needs}
 use Rattle.catalogue.proofs.placed.passes.Statement.{statement}
 use Rattle.catalogue.proofs.placed.passes.Tie as tie
@@ -43,7 +43,13 @@ whole-there : (c : tie.After-wide Inv-loop μ-loop) → wholeRule (drop (c .wide
 whole-there c =
     let start = c .before .before .before .before .before .before .before in
     let starts = start .args .starts .now in
-    rw (c .wide .ensures .0) (start-whole (start .args .rules .now) starts (start .args .j) (c .before .before .before .loop .i) (start .pre .0) (start .pre .1) (omega arith))
+    rw (c .wide .ensures .0) (start-whole (start .args .rules .now) starts (start .args .j) (c .before .before .before .loop .i) (start .pre .0) (start .pre .1 .0) (omega arith))
+
+below-there : (c : tie.After-wide Inv-loop μ-loop) → EachBelow (length (c .before .before .before .before .before .before .before .args .placed .now)) (featuresRead (drop (c .wide .result) (c .before .before .before .before .before .before .before .args .rules .now)))
+below-there c =
+    let start = c .before .before .before .before .before .before .before in
+    let a = start .args in
+    rw (c .wide .ensures .0) (start-below (length (a .placed .now)) (a .rules .now) (a .starts .now) (a .j) (c .before .before .before .loop .i) (start .pre .1 .1) (start .pre .1 .0) (omega arith))
 
 place-within : (c : tie.After-wide Inv-loop μ-loop) → c .wide .result ≤ length (c .before .before .before .before .before .before .before .args .rules .now)
 place-within c =
@@ -61,7 +67,7 @@ part-satisfied-end : tie.Need-part-satisfied-end Inv-loop μ-loop
 part-satisfied-end c = search needs
 
 satisfied-requires : tie.Need-satisfied-requires Inv-loop μ-loop
-satisfied-requires c κs = rw left-lent (whole-there (c .before))
+satisfied-requires c κs = rw left-lent (whole-there (c .before), below-there (c .before))
 
 -- whether what is placed satisfies the rules from a start on
 abbrev from : tie.At-loop Inv-loop μ-loop → ℕ → Bool
@@ -76,7 +82,7 @@ rule-tested c =
 
 from-first : (c : tie.At-loop Inv-loop μ-loop) → from c 0 ≡ passes (rulesRead 64 (c .before .before .before .before .args .rules .now)) (c .before .before .before .before .args .j) (c .before .before .before .before .args .placed .now)
 from-first c =
-    let a = c .before .before .before .before .args in passes-by-starts (a .rules .now) (a .starts .now) (a .placed .now) (a .j) (c .before .before .before .before .pre .1)
+    let a = c .before .before .before .before .args in passes-by-starts (a .rules .now) (a .starts .now) (a .placed .now) (a .j) (c .before .before .before .before .pre .1 .0)
 
 returns : tie.Need-returns Inv-loop μ-loop
 returns c =

@@ -5,6 +5,7 @@ use mathlib.Core.Path.{_≡_, sym, _∙_}
 use native.Mathlib.Omega.{arith}
 use lib.ListN.{length, drop}
 use Rattle.catalogue.specs.Rule.{matches, optionsAt}
+use Rattle.catalogue.proofs.Every.{every-at}
 use Rattle.catalogue.proofs.PlacedSteps.{matches-step, matches-stop, matches-end}
 use borrow.Author.Needs.{needs}
 use Rattle.catalogue.proofs.placed.row_matches.Statement.{statement}
@@ -25,13 +26,13 @@ returns : tie.Need-returns Inv-loop μ-loop
 returns c =
     let start = c .before .before .before .before .before in
     let a = start .args in
-    sym (matches-stop (a .row .now) (a .features .now) (a .placed .now) 0 (omega (arith, start .pre)) (omega (arith, start .pre)) (λ e. c .if1 .taken (e ∙ sym (start .pre .2))))
+    sym (matches-stop (a .row .now) (a .features .now) (a .placed .now) 0 (omega (arith, start .pre)) (omega (arith, start .pre)) (λ e. c .if1 .taken (e ∙ sym (start .pre .0 .2))))
 
 loop-holds : tie.Need-loop-holds Inv-loop μ-loop
 loop-holds c =
     let start = c .before .before .before .before .before in
     let a = start .args in
-    (start .pre .1, sym (matches-step (a .row .now) (a .features .now) (a .placed .now) 0 (omega (arith, start .pre)) (omega (arith, start .pre)) (c .if1 .left ∙ start .pre .2)))
+    (start .pre .0 .1, sym (matches-step (a .row .now) (a .features .now) (a .placed .now) 0 (omega (arith, start .pre)) (omega (arith, start .pre)) (c .if1 .left ∙ start .pre .0 .2)))
 
 mul-if2 : tie.Need-mul-if2 Inv-loop μ-loop
 mul-if2 c = search needs
@@ -49,7 +50,10 @@ wide-requires : tie.Need-wide-requires Inv-loop μ-loop
 wide-requires c κs = search needs
 
 option-at-requires : tie.Need-option-at-requires Inv-loop μ-loop
-option-at-requires c κs = search needs
+option-at-requires c κs =
+    let start = c .before .before .before .before .before .before .before .before .before .before in
+    let i = c .before .before .before .before .loop .i in
+    rw (c .wide .ensures .0) (every-at (start .pre .1) 0 i (omega arith))
 
 returns-2 : tie.Need-returns-2 Inv-loop μ-loop
 returns-2 c =

@@ -10,7 +10,7 @@ use Rattle.catalogue.proofs.placed.satisfied.Statement.{statement}
 use Rattle.catalogue.proofs.placed.satisfied.Tie as tie
 
 whole-list : (c : tie.Start) → Whole (c .args .list .now)
-whole-list c = whole (c .args .list .now) (c .pre)
+whole-list c = whole (c .args .list .now) (c .pre .0)
 
 shared-slice-read-wide : tie.Need-shared-slice-read-wide
 shared-slice-read-wide c = omega (arith, whole-list (c .before .before .before) .has-header)
@@ -68,12 +68,23 @@ all-features c =
     let span : 2 + k - 2 ≡ k = omega arith in
     rw span (simp (length-take, length-drop) (omega (arith, room c)))
 
+-- the part that is lent as the rows is as many rows of that length as the row count says
+whole-rows : (c : tie.After-wide2)
+    → length (take (2 + c .before .before .wide .result - 2) (drop 2 (c .before .before .before .before .before .before .args .list .now))) * c .wide2 .result
+    ≡ length (take (2 + c .before .before .wide .result + c .before .before .wide .result * c .wide2 .result - (2 + c .before .before .wide .result)) (drop (2 + c .before .before .wide .result) (c .before .before .before .before .before .before .args .list .now)))
+whole-rows c = rw (all-features c) (simp (length-take, length-drop) (omega (arith, room c)))
+
 some-row-requires : tie.Need-some-row-requires
 some-row-requires c κs =
     let read = c .before .before in
-    let low = whole-list (c .before .before .before .before .before .before .before .before) .arity-low in
-    rw (all-features read)
-    (simp (length-take, length-drop) (omega (arith, room read)), omega (arith, low, read .before .before .wide .ensures .0))
+    let start = c .before .before .before .before .before .before .before .before in
+    let whole = whole-list start in
+    let k = read .before .before .wide .result in
+    let span : 2 + k - 2 ≡ k = omega arith in
+    let as-read = read .before .before .wide .ensures .0 in (
+      (omega (arith, all-features read, whole .arity-low), (read .wide2 .result, whole-rows read)),
+      rw (span, as-read) (start .pre .1),
+    )
 
 returns : tie.Need-returns
 returns c =
@@ -83,7 +94,7 @@ returns c =
     let m = read .wide2 .result in
     let features-span : 2 + k - 2 ≡ k = omega arith in
     let rows-span : 2 + k + k * m - (2 + k) ≡ k * m = omega arith in
-    c .some-row .ensures
+    c .some-row .ensures m (whole-rows read)
     ∙ rw (all-features read, features-span, rows-span, read .before .before .wide .ensures .0, read .wide2 .ensures .0)
     (satisfied-by-parts (start .args .list .now) (start .args .placed .now))
 

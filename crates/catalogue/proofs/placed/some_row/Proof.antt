@@ -1,25 +1,33 @@
--- Some row matches when one of the rows that are left does, as long as none before did.
-use Prim.Native.Nat.{ℕ, _+_, _-_, _*_}
-use mathlib.Core.Path.{_≡_, sym, _∙_}
-use mathlib.Core.Bool.{Bool, _||_}
+-- Some row matches when one of those from the place on does, as long as none before did.
+use Prim.Native.Nat.{ℕ, _+_, _-_, _*_, _≤_}
+use mathlib.Core.Path.{_≡_, refl, sym, _∙_}
 use native.Mathlib.Omega.{arith}
-use lib.ListN.{length, drop}
-use lib.Seq.{drop-drop}
-use Rattle.catalogue.specs.Rule.{optionsAt, someRow}
+use lib.ListN.{length, take, drop}
+use Rattle.catalogue.specs.Rule.{matches, optionsAt, someRow}
 use Rattle.catalogue.specs.Catalogue.{rowsRead}
-use Rattle.catalogue.proofs.PlacedSteps.{product-step, rows-step, rows-end}
+use Rattle.catalogue.proofs.Every.{every-at}
+use Rattle.catalogue.proofs.PlacedSteps.{row-length, RowsLeft, row-here, row-found, row-passed, no-row-left}
 use borrow.Author.Needs.{needs}
 use Rattle.catalogue.proofs.placed.some_row.Statement.{statement}
 use Rattle.catalogue.proofs.placed.some_row.Tie as tie
 
 abbrev Inv-loop : tie.InvT-loop
-Inv-loop rows count features placed first left₀ place₀ left place =
-    (place + length features * left ≡ length rows)
-    × (someRow (rowsRead (length features) left (drop place rows)) (optionsAt placed features)
-    ≡ someRow (rowsRead (length features) count rows) (optionsAt placed features))
+Inv-loop rows features placed first place₀ place =
+    (count : ℕ) → length features * count ≡ length rows
+    → RowsLeft (length features) rows (optionsAt placed features) (someRow (rowsRead (length features) count rows) (optionsAt placed features)) place
 
 abbrev μ-loop : tie.MeasureT-loop
-μ-loop rows count features placed first left₀ place₀ left place = left
+μ-loop rows features placed first place₀ place = length rows - place
+
+abbrev start-of : tie.At-loop Inv-loop μ-loop → tie.Start Inv-loop μ-loop
+start-of c = c .before .before .before .before .before .before .before
+
+-- the row at the place lies in the list whole
+row-room : (c : tie.In-loop Inv-loop μ-loop)
+    → c .before .loop .place + length (start-of (c .before) .args .features .now) ≤ length (start-of (c .before) .args .rows .now)
+row-room c =
+    let whole = start-of (c .before) .pre .0 .1 in
+    row-here (c .before .loop .inv (whole .0) (whole .1)) (c .loop-test .taken)
 
 shared-slice-read-wide : tie.Need-shared-slice-read-wide Inv-loop μ-loop
 shared-slice-read-wide c = search needs
@@ -28,13 +36,15 @@ wide-requires : tie.Need-wide-requires Inv-loop μ-loop
 wide-requires c κs = search needs
 
 option-at-requires : tie.Need-option-at-requires Inv-loop μ-loop
-option-at-requires c κs = search needs
+option-at-requires c κs =
+    let start = c .before .before .before .before .before in
+    rw (c .wide .ensures .0) (every-at (start .pre .1) 0 0 (start .pre .0 .0))
 
 loop-holds : tie.Need-loop-holds Inv-loop μ-loop
-loop-holds c = search needs
+loop-holds c = λ count e. RowsLeft.these count (omega arith) refl
 
 add-end : tie.Need-add-end Inv-loop μ-loop
-add-end c = search needs
+add-end c = omega (arith, row-room c)
 
 mul-row-matches : tie.Need-mul-row-matches Inv-loop μ-loop
 mul-row-matches c = search needs
@@ -46,52 +56,43 @@ part-row-matches-start : tie.Need-part-row-matches-start Inv-loop μ-loop
 part-row-matches-start c = search needs
 
 part-row-matches-end : tie.Need-part-row-matches-end Inv-loop μ-loop
-part-row-matches-end c =
-    let l = c .before .loop in
-    let k = length (c .before .before .before .before .before .before .before .before .args .features .now) in
-    omega (arith, product-step k (l .left) (omega arith))
+part-row-matches-end c = omega (arith, row-room c)
 
 row-matches-requires : tie.Need-row-matches-requires Inv-loop μ-loop
 row-matches-requires c κs =
-    let first = rw (c .before .before .before .before .wide .ensures .0) at (c .before .before .before .option-at .ensures) in
-    (search needs, c .before .before .before .before .before .before .before .before .before .pre .1, first)
+    let head = c .before .before in
+    let start = start-of head in
+    let k = length (start .args .features .now) in
+    let place = head .loop .place in
+    let span : place + k - place ≡ k = omega arith in
+    let first = rw (head .before .before .wide .ensures .0) at (head .before .option-at .ensures) in
+    ((rw (span, row-length (start .args .rows .now) place k (row-room (c .before))) refl, start .pre .0 .0, first), start .pre .1)
 
--- whether a row matches of so many from a place on
-abbrev from : tie.At-loop Inv-loop μ-loop → ℕ → ℕ → Bool
-from c left place =
-    let a = c .before .before .before .before .before .before .before .args in
-    someRow (rowsRead (length (a .features .now)) left (drop place (a .rows .now))) (optionsAt (a .placed .now) (a .features .now))
-
+-- the call's answer is whether the row at the place matches
 row-tested : (c : tie.After-row-matches Inv-loop μ-loop)
-    → (c .row-matches .result || from (c .before .before .before) (c .before .before .before .loop .left - 1) (c .before .before .before .loop .place + length (c .before .before .before .before .before .before .before .before .before .before .args .features .now)))
-    ≡ from (c .before .before .before) (c .before .before .before .before .before .before .before .before .before .before .args .count) 0
+    → let start = start-of (c .before .before .before) in
+    matches (take (length (start .args .features .now)) (drop (c .before .before .before .loop .place) (start .args .rows .now))) (optionsAt (start .args .placed .now) (start .args .features .now))
+    ≡ c .row-matches .result
 row-tested c =
-    let a = c .before .before .before .before .before .before .before .before .before .before .args in
-    let l = c .before .before .before .loop in
-    let k = length (a .features .now) in
-    let span : l .place + k - l .place ≡ k = omega arith in
-    let step = rw drop-drop at (rows-step k (l .left) (drop (l .place) (a .rows .now)) (optionsAt (a .placed .now) (a .features .now)) (omega arith)) in
-    rw (c .row-matches .ensures, span) (sym step ∙ l .inv .1)
+    let head = c .before .before .before in
+    let k = length (start-of head .args .features .now) in
+    let place = head .loop .place in
+    let span : place + k - place ≡ k = omega arith in
+    sym (rw span at (c .row-matches .ensures))
 
 returns : tie.Need-returns Inv-loop μ-loop
-returns c = rw (c .if1 .taken) at (row-tested (c .before))
-
-sub-left : tie.Need-sub-left Inv-loop μ-loop
-sub-left c = search needs
+returns c =
+    λ count e. row-found (c .before .before .before .before .loop .inv count e) (c .before .before .before .loop-test .taken) (row-tested (c .before) ∙ c .if1 .taken)
 
 loop-less : tie.Need-loop-less Inv-loop μ-loop
 loop-less c = search needs
 
 loop-again : tie.Need-loop-again Inv-loop μ-loop
 loop-again c =
-    let k = length (c .before .before .before .before .before .before .before .before .before .before .before .args .features .now) in
-    (omega (arith, product-step k (c .before .before .before .before .loop .left) (omega arith)), rw (c .if1 .left) at (row-tested (c .before)))
+    λ count e. row-passed (c .before .before .before .before .loop .inv count e) (c .before .before .before .loop-test .taken) (row-tested (c .before) ∙ c .if1 .left)
 
 returns-2 : tie.Need-returns-2 Inv-loop μ-loop
-returns-2 c =
-    let a = c .before .before .before .before .before .before .before .before .args in
-    let l = c .before .loop in
-    sym (rows-end (length (a .features .now)) (l .left) (drop (l .place) (a .rows .now)) (optionsAt (a .placed .now) (a .features .now)) (omega arith)) ∙ l .inv .1
+returns-2 c = λ count e. no-row-left (c .before .loop .inv count e) (start-of (c .before) .pre .0 .0) (omega arith)
 
 pub some-row-spec : {M : Type 1} → statement M
 some-row-spec =
@@ -110,7 +111,6 @@ some-row-spec =
     part-row-matches-end
     row-matches-requires
     returns
-    sub-left
     loop-less
     loop-again
     returns-2)

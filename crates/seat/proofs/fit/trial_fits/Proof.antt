@@ -1,76 +1,59 @@
--- All entries passed are as the definition has them; the first that is not ends the loop.
-use Prim.Native.Nat.{_-_, _≤_, _<_}
+-- An entry is as the definition has it when both halves of its test hold: neither asks anything on the other's side of
+-- the depth.
+use Prim.Native.Nat.{ℕ, zero, suc}
 use mathlib.Core.Path.{_≡_, refl, sym, _∙_}
-use mathlib.Core.Bool.{true}
-use native.Mathlib.Omega.{arith}
+use mathlib.Core.Bool.{Bool, true, false, cond, _&&_, and-true, and-false}
+use mathlib.Core.List.{List}
 use borrow.Author.Needs.{needs}
 use borrow.Author.Tests.{not-true, not-false}
-use lib.ListN.{length}
-use Rattle.catalogue.proofs.PlacedSteps.{getD-within}
+use lib.Dec.{ltb, eqb}
+use lib.ListN.{getD}
 use Rattle.seat.specs.Fit.{everyBelow, entryFits}
-use Rattle.seat.proofs.EveryBelow.{one-more, one-fails, all-passed}
+use Rattle.seat.specs.Ways.{restFits, placedFits}
 use Rattle.seat.proofs.fit.trial_fits.Statement.{statement}
 use Rattle.seat.proofs.fit.trial_fits.Tie as tie
 
-abbrev Inv-loop : tie.InvT-loop
-Inv-loop trial depth sizes f₀ f = (f ≤ 16) × (everyBelow f (entryFits sizes depth trial) ≡ true)
+one-entry : (before rest placed option none : Bool)
+    → (rest && placed && cond before option none)
+    ≡ ((rest && cond before true none) && (placed && cond before option true))
+one-entry true true placed option none = refl
+one-entry true false placed option none = refl
+one-entry false true true option none = sym (and-true none)
+one-entry false true false option none = sym (and-false none)
+one-entry false false placed option none = refl
 
-abbrev μ-loop : tie.MeasureT-loop
-μ-loop trial depth sizes f₀ f = 16 - f
-
-loop-holds : tie.Need-loop-holds Inv-loop μ-loop
+halves : (sizes trial : List ℕ) (depth n : ℕ)
+    → everyBelow n (entryFits sizes depth trial)
+    ≡ (everyBelow n (restFits depth trial) && everyBelow n (placedFits sizes depth trial))
 unfolding everyBelow
-loop-holds c = (omega arith, refl)
+halves sizes trial depth zero = refl
+halves sizes trial depth (suc n) =
+    rw (halves sizes trial depth n)
+    (one-entry (ltb n depth) (everyBelow n (restFits depth trial)) (everyBelow n (placedFits sizes depth trial))
+    (ltb (getD trial n 255) (getD sizes n 0)) (eqb (getD trial n 255) 255))
 
-shared-slice-read-entry-fits : tie.Need-shared-slice-read-entry-fits Inv-loop μ-loop
-shared-slice-read-entry-fits c = search needs
+rest-empty-requires : tie.Need-rest-empty-requires
+rest-empty-requires c κs = search needs
 
-size-at-requires : tie.Need-size-at-requires Inv-loop μ-loop
-size-at-requires c κs = search needs
+returns : tie.Need-returns
+returns c =
+    let a = c .before .before .before .before .args in
+    rw (
+      halves (a .sizes .now) (a .trial .now) (a .depth) 16,
+      sym (c .before .rest-empty .ensures) ∙ not-true _ (c .if1 .taken),
+    )
 
-entry-fits-requires : tie.Need-entry-fits-requires Inv-loop μ-loop
-entry-fits-requires c κs = search needs
+placed-fit-requires : tie.Need-placed-fit-requires
+placed-fit-requires c κs = search needs
 
--- what the code's test of one entry says of the definition's
-tested : (c : tie.After-entry-fits Inv-loop μ-loop)
-    → (let f = c .before .before .before .before .loop .f in
-    let a = c .before .before .before .before .before .before .before .args in
-    entryFits (a .sizes .now) (a .depth) (a .trial .now) f ≡ c .entry-fits .result)
-tested c =
-    let f = c .before .before .before .before .loop .f in
-    let trial = c .before .before .before .before .before .before .before .args .trial .now in
-    let within : f < length trial = omega arith in
-    rw (getD-within trial f 255 0 within, ← c .before .size-at .ensures) (sym (c .entry-fits .ensures))
-
-returns : tie.Need-returns Inv-loop μ-loop
-returns c = sym (one-fails _ 16 (c .before .before .before .before .before .loop .f) (omega arith) (tested (c .before) ∙ not-true _ (c .if1 .taken)))
-
-add-f : tie.Need-add-f Inv-loop μ-loop
-add-f c = search needs
-
-loop-less : tie.Need-loop-less Inv-loop μ-loop
-loop-less c = search needs
-
-loop-again : tie.Need-loop-again Inv-loop μ-loop
-loop-again c =
-    let loop = c .before .before .before .before .before .loop in
-    (omega arith, one-more _ (loop .f) (loop .inv .1) (tested (c .before) ∙ not-false _ (c .if1 .left)))
-
-returns-2 : tie.Need-returns-2 Inv-loop μ-loop
-returns-2 c = sym (all-passed _ (c .before .loop .f) 16 (omega arith) (c .before .loop .inv .1))
+returns-2 : tie.Need-returns-2
+returns-2 c =
+    let a = c .before .before .before .before .before .args in
+    rw (
+      halves (a .sizes .now) (a .trial .now) (a .depth) 16,
+      sym (c .before .before .rest-empty .ensures) ∙ not-false _ (c .before .if1 .left),
+    )
+    (c .placed-fit .ensures)
 
 pub trial-fits-spec : {M : Type 1} → statement M
-trial-fits-spec =
-    tie.close
-    (tie.spec
-    Inv-loop
-    μ-loop
-    loop-holds
-    shared-slice-read-entry-fits
-    size-at-requires
-    entry-fits-requires
-    returns
-    add-f
-    loop-less
-    loop-again
-    returns-2)
+trial-fits-spec = tie.close (tie.spec rest-empty-requires returns placed-fit-requires returns-2)

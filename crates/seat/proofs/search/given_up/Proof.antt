@@ -38,9 +38,12 @@ next-candidate-requires c κs = search needs
 enum-known-next : tie.Need-enum-known-next Inv-loop μ-loop
 enum-known-next c = search needs
 
+same-length : tie.Need-same-length Inv-loop μ-loop
+same-length c = search needs
+
 returns : tie.Need-returns Inv-loop μ-loop
 returns c =
-    let a = c .before .before .before .before .before .before .before .args in
+    let a = c .before .before .before .before .before .before .before .before .args in
     let l = c .before .before .before .before .loop in
     let found = sym (c .before .before .before .next-candidate .ensures) ∙ ap nextOf (c .before .next .given .1) in
     (l .inv .1, sym (goes-on (a .sizes .now) (a .choices .now) (a .i) (a .option) (l .j) (l .given) (l .trial) _ found) ∙ l .inv .4)
@@ -50,15 +53,18 @@ enum-told c = search needs
 
 -- where the code goes back, there is no next candidate
 none-left : (c : tie.After-enum-told Inv-loop μ-loop)
-    → nextCandidate (c .before .before .before .before .before .before .args .sizes .now) (c .before .before .before .before .before .before .args .choices .now)
-    (c .before .before .before .before .before .before .args .i) (c .before .before .before .before .before .before .args .option)
+    → nextCandidate (c .before .before .before .before .before .before .before .args .sizes .now) (c .before .before .before .before .before .before .before .args .choices .now)
+    (c .before .before .before .before .before .before .before .args .i) (c .before .before .before .before .before .before .before .args .option)
     (c .before .before .before .loop .j) (c .before .before .before .loop .given)
     ≡ none
 none-left c = sym (c .before .before .next-candidate .ensures) ∙ ap nextOf (c .enum-told .given .1)
 
+same-length-2 : tie.Need-same-length-2 Inv-loop μ-loop
+same-length-2 c = search needs
+
 returns-2 : tie.Need-returns-2 Inv-loop μ-loop
 returns-2 c =
-    let a = c .before .before .before .before .before .before .before .args in
+    let a = c .before .before .before .before .before .before .before .before .args in
     let l = c .before .before .before .before .loop in
     (l .inv .1, sym (ends (a .sizes .now) (a .choices .now) (a .i) (a .option) (l .j) (l .given) (l .trial) (none-left (c .before)) (c .if1 .taken)) ∙ l .inv .4)
 
@@ -68,18 +74,18 @@ sub-j c = search needs
 cast-at : tie.Need-cast-at Inv-loop μ-loop
 cast-at c = search needs
 
-element-copy-out-given : tie.Need-element-copy-out-given Inv-loop μ-loop
-element-copy-out-given c = search needs
+slice-read-given : tie.Need-slice-read-given Inv-loop μ-loop
+slice-read-given c = search needs
 
-element-write-trial : tie.Need-element-write-trial Inv-loop μ-loop
-element-write-trial c = search needs
+slice-write-trial : tie.Need-slice-write-trial Inv-loop μ-loop
+slice-write-trial c = search needs
 
 loop-less : tie.Need-loop-less Inv-loop μ-loop
 loop-less c = search needs
 
 loop-again : tie.Need-loop-again Inv-loop μ-loop
 loop-again c =
-    let a = c .before .before .before .before .before .before .before .before .args in
+    let a = c .before .before .before .before .before .before .before .before .before .args in
     let l = c .before .before .before .before .before .loop in
     let before : l .j - 1 < length (l .trial) = omega arith in
     let read = getD-within (l .trial) (l .j - 1) 0 255 before in
@@ -101,12 +107,14 @@ given-up-spec =
     cast-next-candidate
     next-candidate-requires
     enum-known-next
+    same-length
     returns
     enum-told
+    same-length-2
     returns-2
     sub-j
     cast-at
-    element-copy-out-given
-    element-write-trial
+    slice-read-given
+    slice-write-trial
     loop-less
     loop-again)

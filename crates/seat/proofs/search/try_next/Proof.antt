@@ -1,6 +1,7 @@
 -- The part of the starts that is lent is where the rules begin that are tested at the depth, so the code's test is the
--- definition's, and each of the three ways on is one of the definition's. Where the test fails, the trial is put back as it
--- was. The bounds come from a catalogue without fault and a place that fits it.
+-- definition's, and each of the three ways on is one of the definition's. Where the test fails, the option is taken out
+-- of the trial again, in which nothing stood at the depth. The bounds come from a catalogue without fault and a place
+-- that fits it.
 use Prim.Native.Nat.{ℕ, _<_, _+_, _-_, _*_}
 use mathlib.Core.Path.{_≡_, sym, _∙_}
 use mathlib.Core.Bool.{Bool, true, false}
@@ -13,6 +14,7 @@ use lib.Seq.{set-set, set-getD}
 use Rattle.catalogue.specs.Rule.{passes}
 use Rattle.catalogue.specs.Catalogue.{Catalogue, rulesOf}
 use Rattle.catalogue.proofs.Faultless.{fault-whole}
+use Rattle.catalogue.proofs.Format.{fault-below}
 use Rattle.seat.specs.Step.{tried}
 use Rattle.seat.proofs.Fits.{PlaceFits, place-fits}
 use Rattle.seat.proofs.PlaceBounds.{few-features, size-within, depth-below-16, next-below-16}
@@ -31,9 +33,9 @@ shallow c = depth-below-16 (catalogue c) (c .pre .0) (within c)
 placed-long : (c : tie.Start) → length (set (c .args .trial .now) (c .args .place .depth) (c .args .place .next)) ≡ 16
 placed-long c = rw length-set (c .pre .1 .1 .0 .1)
 
--- what stood at a place, put back over what was set there
-put-back : (trial : List ℕ) (j v : ℕ) → set (set trial j v) j (getD trial j 0) ≡ trial
-put-back trial j v = set-set trial j v (getD trial j 0) ∙ set-getD trial j 0
+-- where nothing is placed, what was set is taken back by setting nothing
+taken-back : (trial : List ℕ) (j v : ℕ) → getD trial j 255 ≡ 255 → set (set trial j v) j 255 ≡ trial
+taken-back trial j v nothing = set-set trial j v 255 ∙ rw nothing at (set-getD trial j 255)
 
 cast-i : tie.Need-cast-i
 cast-i c = search needs
@@ -41,11 +43,8 @@ cast-i c = search needs
 cast-j : tie.Need-cast-j
 cast-j c = search needs
 
-element-copy-out-before : tie.Need-element-copy-out-before
-element-copy-out-before c = let start = c .before .before .before .before .before .before in omega (arith, shallow start, start .pre .1 .1 .0 .1)
-
-element-write-trial : tie.Need-element-write-trial
-element-write-trial c = let start = c .before .before .before .before .before .before .before in omega (arith, shallow start, start .pre .1 .1 .0 .1)
+slice-write-trial : tie.Need-slice-write-trial
+slice-write-trial c = let start = c .before .before .before .before .before .before .before in omega (arith, shallow start, start .pre .1 .1 .0 .1)
 
 mul-from : tie.Need-mul-from
 mul-from c = search needs
@@ -76,76 +75,89 @@ part-passes-end c =
 
 passes-requires : tie.Need-passes-requires
 passes-requires c κs =
-    let start = c .before .before .before .before .before .before .before .before .before .before .before .before in
-    let count = c .before .before .before .byte .result in
+    let start = c .before .before .before .before .before .before .before .before .before .before .before in
+    let count = c .before .before .byte .result in
     let j = start .args .place .depth in
     let span : j * 64 + count - j * 64 ≡ count = omega arith in (
       fault-whole (catalogue start) (start .pre .0),
-      rw (span, c .before .before .before .byte .ensures .0) (start .pre .1 .1 .1 .are-starts j (shallow start)),
+      (
+        rw (span, c .before .before .byte .ensures .0) (start .pre .1 .1 .1 .are-starts j (shallow start)),
+        rw (placed-long start) (fault-below (catalogue start) (start .pre .0)),
+      ),
     )
 
 -- whether the option that is tried passes
 abbrev test : tie.Start → Bool
 test c = passes (rulesOf (catalogue c)) (c .args .place .depth) (set (c .args .trial .now) (c .args .place .depth) (c .args .place .next))
 
-test-failed : (c : tie.Then1) → test (c .before .before .before .before .before .before .before .before .before .before .before .before .before .before) ≡ false
+test-failed : (c : tie.Then1) → test (c .before .before .before .before .before .before .before .before .before .before .before .before .before) ≡ false
 unfolding rulesOf
 test-failed c = sym (c .before .passes .ensures) ∙ not-true (c .before .passes .result) (c .if1 .taken)
 
-test-passed : (c : tie.Else1) → test (c .before .before .before .before .before .before .before .before .before .before .before .before .before .before) ≡ true
+test-passed : (c : tie.Else1) → test (c .before .before .before .before .before .before .before .before .before .before .before .before .before) ≡ true
 unfolding rulesOf
 test-passed c = sym (c .before .passes .ensures) ∙ not-false (c .before .passes .result) (c .if1 .left)
 
-element-write-trial-2 : tie.Need-element-write-trial-2
-element-write-trial-2 c =
-    let start = c .before .before .before .before .before .before .before .before .before .before .before .before .before .before in omega (arith, shallow start, placed-long start)
+slice-write-trial-2 : tie.Need-slice-write-trial-2
+slice-write-trial-2 c =
+    let start = c .before .before .before .before .before .before .before .before .before .before .before .before .before in omega (arith, shallow start, placed-long start)
 
 given-up-requires : tie.Need-given-up-requires
 given-up-requires c κs =
-    let start = c .before .before .before .before .before .before .before .before .before .before .before .before .before .before .before in
+    let start = c .before .before .before .before .before .before .before .before .before .before .before .before .before .before in
     let a = start .args in
-    let back = put-back (a .trial .now) (a .place .depth) (a .place .next) in
+    let back = taken-back (a .trial .now) (a .place .depth) (a .place .next) (start .pre .1 .1 .0 .3) in
     let next-small = next-below-16 (catalogue start) (start .pre .0) (within start) in (
       (start .pre .1 .1 .0 .0, few-features (catalogue start) (start .pre .0), within start .depth-below, omega (arith, next-small)),
       rw back (start .pre .1 .1 .0 .1, start .pre .1 .1 .0 .2),
     )
 
+same-length : tie.Need-same-length
+same-length c = search needs
+
 returns : tie.Need-returns
 unfolding tried rulesOf
 returns c =
-    let a = c .before .before .before .before .before .before .before .before .before .before .before .before .before .before .before .before .args in
-    let back = put-back (a .trial .now) (a .place .depth) (a .place .next) in
-    (c .given-up .ensures .0, rw (test-failed (c .before .before)) (rw back at (c .given-up .ensures .1)))
+    let start = c .before .before .before .before .before .before .before .before .before .before .before .before .before .before .before .before .before in
+    let a = start .args in
+    let back = taken-back (a .trial .now) (a .place .depth) (a .place .next) (start .pre .1 .1 .0 .3) in
+    (c .before .before .given-up .ensures .0, rw (test-failed (c .before .before .before .before)) (rw back at (c .before .before .given-up .ensures .1)))
 
 add-if2 : tie.Need-add-if2
 add-if2 c = search needs
 
+same-length-2 : tie.Need-same-length-2
+same-length-2 c = search needs
+
 returns-2 : tie.Need-returns-2
 unfolding tried rulesOf
 returns-2 c =
-    let start = c .before .before .before .before .before .before .before .before .before .before .before .before .before .before .before in
+    let start = c .before .before .before .before .before .before .before .before .before .before .before .before .before .before in
     let a = start .args in
     (placed-long start, rw (test-passed (c .before), eq-eqb (a .place .depth + 1) (length (a .sizes .now)) (c .if2 .taken)))
 
 add-first-candidate : tie.Need-add-first-candidate
 add-first-candidate c = search needs
 
-next-depth : (c : tie.Else2) → c .before .before .before .before .before .before .before .before .before .before .before .before .before .before .before .args .place .depth + 1 < length (c .before .before .before .before .before .before .before .before .before .before .before .before .before .before .before .args .sizes .now)
-next-depth c = let start = c .before .before .before .before .before .before .before .before .before .before .before .before .before .before .before in omega (arith, within start .depth-below, c .if2 .left)
+next-depth : (c : tie.Else2) → c .before .before .before .before .before .before .before .before .before .before .before .before .before .before .args .place .depth + 1 < length (c .before .before .before .before .before .before .before .before .before .before .before .before .before .before .args .sizes .now)
+next-depth c = let start = c .before .before .before .before .before .before .before .before .before .before .before .before .before .before in omega (arith, within start .depth-below, c .if2 .left)
 
 first-candidate-requires : tie.Need-first-candidate-requires
 first-candidate-requires c κs =
-    let start = c .before .before .before .before .before .before .before .before .before .before .before .before .before .before .before in
+    let start = c .before .before .before .before .before .before .before .before .before .before .before .before .before .before in
     let size = size-within (catalogue start) (start .pre .0) (start .args .place .depth + 1) (next-depth c) in
     (start .pre .1 .1 .0 .0, omega (arith, next-depth c, few-features (catalogue start) (start .pre .0)), size .0)
 
 add-t19 : tie.Need-add-t19
-add-t19 c = omega (arith, shallow (c .before .before .before .before .before .before .before .before .before .before .before .before .before .before .before .before))
+add-t19 c = omega (arith, shallow (c .before .before .before .before .before .before .before .before .before .before .before .before .before .before .before))
+
+same-length-3 : tie.Need-same-length-3
+same-length-3 c = search needs
 
 returns-3 : tie.Need-returns-3
 unfolding tried rulesOf
 returns-3 c =
-    let start = c .before .before .before .before .before .before .before .before .before .before .before .before .before .before .before .before in
+    let start = c .before .before .before .before .before .before .before .before .before .before .before .before .before .before .before in
     let a = start .args in
     (placed-long start, rw (test-passed (c .before .before), ne-eqb (a .place .depth + 1) (length (a .sizes .now)) (c .before .if2 .left), c .first-candidate .ensures))
 
@@ -155,8 +167,7 @@ try-next-spec =
     (tie.spec
     cast-i
     cast-j
-    element-copy-out-before
-    element-write-trial
+    slice-write-trial
     mul-from
     shared-slice-read-byte
     byte-requires
@@ -166,12 +177,15 @@ try-next-spec =
     part-passes-start
     part-passes-end
     passes-requires
-    element-write-trial-2
+    slice-write-trial-2
     given-up-requires
+    same-length
     returns
     add-if2
+    same-length-2
     returns-2
     add-first-candidate
     first-candidate-requires
     add-t19
+    same-length-3
     returns-3)

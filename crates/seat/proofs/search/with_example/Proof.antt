@@ -20,8 +20,8 @@ write-example-requires c κs = search needs
 mul-mask : tie.Need-mul-mask
 mul-mask c = search needs
 
-element-copy-out-mask : tie.Need-element-copy-out-mask
-element-copy-out-mask c = search needs
+slice-read-mask : tie.Need-slice-read-mask
+slice-read-mask c = search needs
 
 shl-masks : tie.Need-shl-masks
 shl-masks c = search needs
@@ -29,15 +29,18 @@ shl-masks c = search needs
 mul-masks : tie.Need-mul-masks
 mul-masks c = search needs
 
-element-write-masks : tie.Need-element-write-masks
-element-write-masks c = search needs
+slice-write-masks : tie.Need-slice-write-masks
+slice-write-masks c = search needs
 
 same-length : tie.Need-same-length
 same-length c = search needs
 
+same-length-2 : tie.Need-same-length-2
+same-length-2 c = search needs
+
 returns : tie.Need-returns
 returns c =
-    let s = c .before .before .before .before .before .before in
+    let s = c .before .before .before .before .before .before .before .before in
     let mask = getD (s .args .masks .now) (s .args .feature) 0 in
     (rw (or-shifted-bit mask (s .args .option) (s .pre .1)), c .before .before .before .write-example .ensures)
 
@@ -50,9 +53,10 @@ with-example-spec =
     add-write-example
     write-example-requires
     mul-mask
-    element-copy-out-mask
+    slice-read-mask
     shl-masks
     mul-masks
-    element-write-masks
+    slice-write-masks
     same-length
+    same-length-2
     returns)

@@ -18,8 +18,8 @@ abbrev μ-loop : tie.MeasureT-loop
 loop-holds : tie.Need-loop-holds Inv-loop μ-loop
 loop-holds c = search needs
 
-element-copy-out-into : tie.Need-element-copy-out-into Inv-loop μ-loop
-element-copy-out-into c = search needs
+shared-slice-read-into : tie.Need-shared-slice-read-into Inv-loop μ-loop
+shared-slice-read-into c = search needs
 
 slice-write-into : tie.Need-slice-write-into Inv-loop μ-loop
 slice-write-into c = search needs
@@ -55,7 +55,7 @@ copy-spec =
     Inv-loop
     μ-loop
     loop-holds
-    element-copy-out-into
+    shared-slice-read-into
     slice-write-into
     add-i
     loop-less

@@ -21,7 +21,7 @@ part-copy-end c = search needs
 
 copy-requires : tie.Need-copy-requires
 copy-requires c κs =
-    let s = c .before .before in
+    let s = c .before .before .before in
     (s .pre .0, omega (arith, mid-len (s .args .place) (s .args .place + 16) (s .args .share .now) (s .pre .1)))
 
 same-length : tie.Need-same-length
@@ -30,7 +30,7 @@ same-length c = search needs
 returns : tie.Need-returns
 unfolding put
 returns c =
-    let s = c .before .before .before .before .before in
+    let s = c .before .before .before .before .before .before in
     rw (c .before .before .copy .ensures, post-is (s .args .place) (s .args .place + 16) (s .args .share .now) (omega arith), s .pre .0)
 
 pub write-example-spec : {M : Type 1} → statement M
