@@ -16,8 +16,11 @@ extern "C" {
 const THREAD_CPU_TIME: c_int = 3; // CLOCK_THREAD_CPUTIME_ID of Linux
 
 pub fn cpu_time() -> Duration {
-    let mut time = TimeSpec { seconds: 0, nanoseconds: 0 };
-    // Sound: the record is the C library's, and lent for the call alone.
+    let mut time = TimeSpec {
+        seconds: 0,
+        nanoseconds: 0,
+    };
+    // SAFETY: the record is laid out as the C library lays it out, and is lent for the call alone.
     let failed = unsafe { clock_gettime(THREAD_CPU_TIME, &mut time) };
     assert_eq!(failed, 0, "no processor time");
     Duration::new(time.seconds as u64, time.nanoseconds as u32)

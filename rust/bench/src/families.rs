@@ -1,9 +1,16 @@
 //! Catalogues to measure on, each the same in every run.
 
+use crate::Catalogue;
+
 pub struct Family {
     pub name: String,
-    pub sizes: Vec<u8>,
-    pub rules: Vec<u16>,
+    pub catalogue: Catalogue,
+}
+
+impl Family {
+    pub fn numbers(&self) -> usize {
+        self.catalogue.rule_list().len()
+    }
 }
 
 /// A small generator (xorshift), so that a seed names a catalogue.
@@ -23,8 +30,7 @@ pub fn trolley() -> Family {
     let b = [2, 4, 1, 2, 0, 0, 1, 1, 2, 0, 2, 1];
     Family {
         name: "trolley".to_string(),
-        sizes: vec![3, 3, 2],
-        rules: [a, b].concat(),
+        catalogue: Catalogue::from_numbers(&[3, 3, 2], &[a, b].concat()),
     }
 }
 
@@ -44,7 +50,11 @@ fn rule_on(dice: &mut Dice, sizes: &[u8], features: &[usize], rows: usize) -> Ve
     let mut rule = vec![features.len() as u16, rows as u16];
     rule.extend(features.iter().map(|&feature| feature as u16));
     for _ in 0..rows {
-        rule.extend(features.iter().map(|&feature| dice.below(sizes[feature].into()) as u16));
+        rule.extend(
+            features
+                .iter()
+                .map(|&feature| dice.below(sizes[feature].into()) as u16),
+        );
     }
     rule
 }
@@ -63,12 +73,13 @@ pub fn drawn(features: usize, size: u8, rules: usize, percent: usize, seed: u64)
         list.extend(drawn_rule(&mut dice, &sizes, arity, rows));
     }
     Family {
-        name: format!("{} features of {}, {} rules, {} %", features, size, rules, percent),
-        sizes,
-        rules: list,
+        name: format!(
+            "{} features of {}, {} rules, {} %",
+            features, size, rules, percent
+        ),
+        catalogue: Catalogue::from_numbers(&sizes, &list),
     }
 }
-
 
 /// One rule of six features with so many rows, tested at the last of twelve features of four options.
 pub fn one_rule(rows: usize) -> Family {
@@ -76,8 +87,7 @@ pub fn one_rule(rows: usize) -> Family {
     let rules = rule_on(&mut Dice(77), &sizes, &[11, 9, 7, 5, 3, 1], rows);
     Family {
         name: format!("one rule of {} rows ({} numbers)", rows, rules.len()),
-        sizes,
-        rules,
+        catalogue: Catalogue::from_numbers(&sizes, &rules),
     }
 }
 
@@ -85,10 +95,11 @@ pub fn one_rule(rows: usize) -> Family {
 pub fn pairs_of_features(rules: usize) -> Family {
     let sizes = vec![16u8; 16];
     let mut dice = Dice(4711);
-    let list: Vec<u16> = (0..rules).flat_map(|_| drawn_rule(&mut dice, &sizes, 2, 62)).collect();
+    let list: Vec<u16> = (0..rules)
+        .flat_map(|_| drawn_rule(&mut dice, &sizes, 2, 62))
+        .collect();
     Family {
         name: format!("{} rules of 62 rows ({} numbers)", rules, list.len()),
-        sizes,
-        rules: list,
+        catalogue: Catalogue::from_numbers(&sizes, &list),
     }
 }

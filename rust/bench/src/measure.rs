@@ -1,13 +1,13 @@
-//! Times, taken in turn: desk, plain, desk, plain, .. Of several rounds the best of each counts.
+//! Times, taken in turn: desk, plain, checked, desk, .. Of several rounds the best of each counts.
 
 use crate::clock::cpu_time;
 use crate::families::Family;
-use crate::{door, plain};
+use crate::{checked, door, plain};
 use std::time::{Duration, Instant};
 
 pub const ROUNDS: u32 = 5;
 
-/// The same steps made by both, and how long each took.
+/// The same steps made by the desk and by a plain version, and how long each took.
 #[derive(Clone, Copy)]
 pub struct Pair {
     pub desk: Duration,
@@ -16,6 +16,12 @@ pub struct Pair {
 }
 
 impl Pair {
+    const NEVER: Pair = Pair {
+        desk: Duration::MAX,
+        plain: Duration::MAX,
+        steps: 0,
+    };
+
     pub fn desk_rate(&self) -> f64 {
         self.steps as f64 / self.desk.as_secs_f64()
     }
@@ -28,17 +34,36 @@ impl Pair {
     pub fn ratio(&self) -> f64 {
         self.plain.as_secs_f64() / self.desk.as_secs_f64()
     }
+
+    fn better(&mut self, (desk, steps): (Duration, u64), (plain, plain_steps): (Duration, u64)) {
+        assert_eq!(steps, plain_steps);
+        *self = Pair {
+            desk: self.desk.min(desk),
+            plain: self.plain.min(plain),
+            steps,
+        };
+    }
 }
 
-fn busy_desk(family: &Family, seats: usize) -> door::Desk<'_> {
-    let mut desk = door::Desk::open(&family.sizes, &family.rules);
+/// The desk against the plain versions.
+pub struct Against {
+    pub plain: Pair,
+    pub by_first: Pair, // plain, with the tuned row test
+    pub checked: Pair,
+}
+
+pub fn busy_desk(family: &Family, seats: usize) -> door::Desk<'_> {
+    let mut desk = door::Desk::open(&family.catalogue);
     for c in 0..seats {
         assert_eq!(desk.enter(c), 0);
     }
     desk
 }
 
-fn busy_plain(catalogue: &plain::Catalogue, seats: usize) -> plain::Desk<'_> {
+pub fn busy_plain<const BY_FIRST: bool>(
+    catalogue: &plain::Grouped<BY_FIRST>,
+    seats: usize,
+) -> plain::Desk<'_, BY_FIRST> {
     let mut desk = plain::Desk::open(catalogue);
     for c in 0..seats {
         desk.enter(c);
@@ -46,23 +71,20 @@ fn busy_plain(catalogue: &plain::Catalogue, seats: usize) -> plain::Desk<'_> {
     desk
 }
 
-/// Both make the same steps: after each of some calls, answers, records and boards are equal.
-pub fn same_steps(family: &Family, seats: usize) {
-    let catalogue = plain::Catalogue::new(&family.sizes, &family.rules);
-    let mut desk = busy_desk(family, seats);
-    let mut plain = busy_plain(&catalogue, seats);
-    for w in (0..64).chain([0, 999, 65535, 65535, 1, 65535]) {
-        assert_eq!(desk.turns(w), plain.turns(w), "{}: answers", family.name);
-        assert_eq!(desk.next(), plain.next, "{}: next seat", family.name);
-        for c in 0..8 {
-            assert_eq!(desk.seat(c), plain.seats[c], "{}: seat {}", family.name, c);
-        }
-        assert!(desk.board == plain.board, "{}: boards", family.name);
+pub fn busy_checked(family: &Family, seats: usize) -> checked::Host<'_> {
+    let mut host = checked::Host::open(&family.catalogue);
+    for c in 0..seats {
+        host.enter(c);
     }
+    host
 }
 
 /// Time and steps of some calls from a posted job on; where all jobs end, others are posted outside the time.
-fn timed_calls<D>(fresh: impl Fn() -> D, turns: impl Fn(&mut D) -> (u16, bool), calls: u32) -> (Duration, u64) {
+fn timed_calls<D>(
+    fresh: impl Fn() -> D,
+    turns: impl Fn(&mut D) -> (u16, bool),
+    calls: u32,
+) -> (Duration, u64) {
     let mut desk = fresh();
     let (mut time, mut steps) = (Duration::ZERO, 0);
     for _ in 0..calls {
@@ -78,34 +100,41 @@ fn timed_calls<D>(fresh: impl Fn() -> D, turns: impl Fn(&mut D) -> (u16, bool), 
 }
 
 /// Some calls of turns(w) with so many seats at work.
-pub fn turns(family: &Family, seats: usize, w: u16, calls: u32) -> Pair {
-    let catalogue = plain::Catalogue::new(&family.sizes, &family.rules);
-    let mut best = Pair { desk: Duration::MAX, plain: Duration::MAX, steps: 0 };
+pub fn turns(family: &Family, seats: usize, w: u16, calls: u32) -> Against {
+    let grouped = plain::Grouped::<false>::new(&family.catalogue);
+    let tuned = plain::Grouped::<true>::new(&family.catalogue);
+    let mut best = Against {
+        plain: Pair::NEVER,
+        by_first: Pair::NEVER,
+        checked: Pair::NEVER,
+    };
     for _ in 0..ROUNDS {
-        let (desk, steps) = timed_calls(|| busy_desk(family, seats), |desk| desk.turns(w), calls);
-        let (plain, plain_steps) = timed_calls(|| busy_plain(&catalogue, seats), |desk| desk.turns(w), calls);
-        assert_eq!(steps, plain_steps);
-        best = Pair { desk: best.desk.min(desk), plain: best.plain.min(plain), steps };
+        let desk = timed_calls(|| busy_desk(family, seats), |desk| desk.turns(w), calls);
+        let plain = timed_calls(|| busy_plain(&grouped, seats), |desk| desk.turns(w), calls);
+        let by_first = timed_calls(|| busy_plain(&tuned, seats), |desk| desk.turns(w), calls);
+        let checked = timed_calls(|| busy_checked(family, seats), |host| host.turns(w), calls);
+        best.plain.better(desk, plain);
+        best.by_first.better(desk, by_first);
+        best.checked.better(desk, checked);
     }
     best
 }
 
 /// From an enter on a fresh desk until its seat is ready; none where that takes more than so many steps.
 pub fn enter_to_ready(family: &Family, most: u64) -> Option<Pair> {
-    let catalogue = plain::Catalogue::new(&family.sizes, &family.rules);
-    let mut best = Pair { desk: Duration::MAX, plain: Duration::MAX, steps: 0 };
+    let grouped = plain::Grouped::<false>::new(&family.catalogue);
+    let mut best = Pair::NEVER;
     for _ in 0..ROUNDS {
-        let mut desk = door::Desk::open(&family.sizes, &family.rules);
+        let mut desk = door::Desk::open(&family.catalogue);
         let start = cpu_time();
         desk.enter(0);
         let steps = until_ready(|| desk.turns(65535), most)?;
-        best.desk = best.desk.min(cpu_time() - start);
-        let mut plain = plain::Desk::open(&catalogue);
+        let desk_time = cpu_time() - start;
+        let mut plain = plain::Desk::open(&grouped);
         let start = cpu_time();
         plain.enter(0);
-        best.steps = until_ready(|| plain.turns(65535), most)?;
-        best.plain = best.plain.min(cpu_time() - start);
-        assert_eq!(steps, best.steps);
+        let plain_steps = until_ready(|| plain.turns(65535), most)?;
+        best.better((desk_time, steps), (cpu_time() - start, plain_steps));
     }
     Some(best)
 }
@@ -122,6 +151,41 @@ fn until_ready(mut turns: impl FnMut() -> (u16, bool), most: u64) -> Option<u64>
             return None;
         }
     }
+}
+
+/// One call of turns(w) where so many seats have just entered, by the desk and by the checked version. A call may be
+/// shorter than the clock's own, so the clock is read around some that begin alike, and the mean counts.
+pub fn same_call(family: &Family, seats: usize, w: u16) -> Pair {
+    let (sizes, rules) = (family.catalogue.sizes(), family.catalogue.rule_list());
+    let desk = busy_desk(family, seats);
+    let host = busy_checked(family, seats);
+    let mut best = Pair::NEVER;
+    for _ in 0..4 * ROUNDS {
+        let (mut board, mut checked_board) = (desk.board.clone(), host.board.clone());
+        best.better(
+            mean_call(&desk.record, |desk| {
+                door::turns(desk, &mut board, &family.catalogue, w)
+            }),
+            mean_call(&host.desk, |desk| {
+                checked::turns(desk, &mut checked_board, sizes, rules, w)
+            }),
+        );
+    }
+    best
+}
+
+fn mean_call<D: Clone>(
+    fresh: &D,
+    mut turns: impl FnMut(&mut D) -> Result<(u16, bool), u8>,
+) -> (Duration, u64) {
+    const CALLS: u32 = 50;
+    let mut desks = vec![fresh.clone(); CALLS as usize];
+    let mut steps = 0;
+    let start = cpu_time();
+    for desk in &mut desks {
+        steps += u64::from(turns(desk).expect("turns refused").0);
+    }
+    ((cpu_time() - start) / CALLS, steps / u64::from(CALLS))
 }
 
 /// What a call takes, each on a desk with one seat at work.

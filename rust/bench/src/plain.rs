@@ -1,31 +1,8 @@
-//! The written search in plain Rust: a seat is changed in place, the rules are grouped by their highest feature once,
-//! and rows are compared where they stand.
+//! The first plain version: its rules are grouped by their highest feature once, rows are compared where they stand,
+//! and it makes no check. Its row test comes in two kinds: as one first writes it, and tuned as the desk's is.
 
-pub const NONE: u8 = 255;
-const SHARE: usize = 4096;
-
-#[derive(Clone, Copy, PartialEq, Eq, Debug)]
-pub struct Place {
-    pub feature: u8,
-    pub option: u8,
-    pub depth: u8,
-    pub next: u8,
-}
-
-#[derive(Clone, Copy, PartialEq, Eq, Debug)]
-pub enum State {
-    Closed,
-    Ready,
-    AtWork(Place),
-}
-
-#[derive(Clone, Copy, PartialEq, Eq, Debug)]
-pub struct Seat {
-    pub state: State,
-    pub choices: [u8; 16],
-    pub masks: [u16; 16],
-    pub trial: [u8; 16],
-}
+use crate::seat::{Place, Rules, Seat, State, BOARD, NONE, SHARE};
+use crate::Catalogue;
 
 struct Rule {
     features: Vec<u8>,
@@ -33,6 +10,7 @@ struct Rule {
 }
 
 impl Rule {
+    /// The options of each row against those placed, one by one.
     fn satisfied(&self, placed: &[u8; 16]) -> bool {
         let matches = |row: &[u8]| {
             row.iter()
@@ -41,16 +19,32 @@ impl Rule {
         };
         self.rows.chunks_exact(self.features.len()).any(matches)
     }
+
+    /// The first option, looked up once for all rows, before the others: most rows differ there.
+    fn satisfied_by_first(&self, placed: &[u8; 16]) -> bool {
+        let option = |&feature: &u8| placed[usize::from(feature & 15)];
+        let first = option(&self.features[0]);
+        let others = |row: &[u8]| {
+            row[1..]
+                .iter()
+                .zip(&self.features[1..])
+                .all(|(&given, feature)| given == option(feature))
+        };
+        self.rows
+            .chunks_exact(self.features.len())
+            .any(|row| row[0] == first && others(row))
+    }
 }
 
-pub struct Catalogue {
+pub struct Grouped<const BY_FIRST: bool> {
     sizes: Vec<u8>,
     rules_at: Vec<Vec<Rule>>, // those tested at each feature
 }
 
-impl Catalogue {
-    /// Of a rule list without a fault.
-    pub fn new(sizes: &[u8], mut list: &[u16]) -> Catalogue {
+impl<const BY_FIRST: bool> Grouped<BY_FIRST> {
+    /// Of a catalogue without a fault.
+    pub fn new(catalogue: &Catalogue) -> Grouped<BY_FIRST> {
+        let (sizes, mut list) = (catalogue.sizes(), catalogue.rule_list());
         let mut rules_at: Vec<Vec<Rule>> = sizes.iter().map(|_| Vec::new()).collect();
         while !list.is_empty() {
             let (k, m) = (usize::from(list[0]), usize::from(list[1]));
@@ -61,130 +55,42 @@ impl Catalogue {
             rules_at[highest].push(Rule { features, rows });
             list = &list[2 + k + k * m..];
         }
-        Catalogue {
+        Grouped {
             sizes: sizes.to_vec(),
             rules_at,
         }
     }
-
-    fn passes(&self, j: usize, placed: &[u8; 16]) -> bool {
-        self.rules_at[j].iter().all(|rule| rule.satisfied(placed))
-    }
 }
 
-impl Seat {
-    const CLOSED: Seat = Seat {
-        state: State::Closed,
-        choices: [NONE; 16],
-        masks: [0; 16],
-        trial: [NONE; 16],
-    };
+impl<const BY_FIRST: bool> Rules for Grouped<BY_FIRST> {
+    fn sizes(&self) -> &[u8] {
+        &self.sizes
+    }
 
-    fn first_candidate(&self, i: usize, a: u8, j: usize) -> u8 {
-        if j == i {
-            a
-        } else if self.choices[j] != NONE {
-            self.choices[j]
+    fn passed(&self, j: usize, placed: &[u8; 16]) -> bool {
+        let rules = &self.rules_at[j];
+        if BY_FIRST {
+            rules.iter().all(|rule| rule.satisfied_by_first(placed))
         } else {
-            0
+            rules.iter().all(|rule| rule.satisfied(placed))
         }
-    }
-
-    fn next_candidate(&self, sizes: &[u8], i: usize, a: u8, j: usize, v: u8) -> Option<u8> {
-        if j == i {
-            return Some(a).filter(|&only| v < only);
-        }
-        let choice = self.choices[j];
-        if choice != NONE {
-            return Some(choice).filter(|&only| v < only);
-        }
-        Some(v + 1).filter(|&next| next < sizes[j])
-    }
-
-    fn start_pair(&mut self, feature: u8, option: u8) {
-        self.trial = [NONE; 16];
-        self.state = State::AtWork(Place {
-            feature,
-            option,
-            depth: 0,
-            next: self.first_candidate(usize::from(feature), option, 0),
-        });
-    }
-
-    fn end_pair(&mut self, sizes: &[u8], feature: u8, option: u8) {
-        if option + 1 < sizes[usize::from(feature)] {
-            self.start_pair(feature, option + 1);
-        } else if usize::from(feature) + 1 < sizes.len() {
-            self.start_pair(feature + 1, 0);
-        } else {
-            self.trial = [NONE; 16];
-            self.state = State::Ready;
-        }
-    }
-
-    /// Rule 5.
-    fn give_up(&mut self, sizes: &[u8], place: Place) {
-        let i = usize::from(place.feature);
-        let (mut j, mut v) = (usize::from(place.depth), place.next);
-        loop {
-            if let Some(next) = self.next_candidate(sizes, i, place.option, j, v) {
-                self.trial[j] = NONE;
-                self.state = State::AtWork(Place {
-                    depth: j as u8,
-                    next,
-                    ..place
-                });
-                return;
-            }
-            self.trial[j] = NONE;
-            if j == 0 {
-                return self.end_pair(sizes, place.feature, place.option);
-            }
-            j -= 1;
-            v = self.trial[j];
-        }
-    }
-
-    /// One step, for a seat at work.
-    fn step(&mut self, place: Place, catalogue: &Catalogue, share: &mut [u8]) {
-        let sizes = &catalogue.sizes[..];
-        let (i, j) = (usize::from(place.feature), usize::from(place.depth));
-        let choice = self.choices[i];
-        if choice != NONE && choice != place.option {
-            return self.end_pair(sizes, place.feature, place.option);
-        }
-        self.trial[j] = place.next;
-        if !catalogue.passes(j, &self.trial) {
-            return self.give_up(sizes, place);
-        }
-        if j + 1 == sizes.len() {
-            let at = i * 256 + usize::from(place.option) * 16;
-            share[at..at + 16].copy_from_slice(&self.trial);
-            self.masks[i] |= 1 << place.option;
-            return self.end_pair(sizes, place.feature, place.option);
-        }
-        self.state = State::AtWork(Place {
-            depth: place.depth + 1,
-            next: self.first_candidate(i, place.option, j + 1),
-            ..place
-        });
     }
 }
 
 /// Eight seats, their board and their catalogue.
-pub struct Desk<'a> {
+pub struct Desk<'a, const BY_FIRST: bool> {
     pub seats: [Seat; 8],
     pub next: usize,
     pub board: Vec<u8>,
-    catalogue: &'a Catalogue,
+    catalogue: &'a Grouped<BY_FIRST>,
 }
 
-impl<'a> Desk<'a> {
-    pub fn open(catalogue: &'a Catalogue) -> Desk<'a> {
+impl<'a, const BY_FIRST: bool> Desk<'a, BY_FIRST> {
+    pub fn open(catalogue: &'a Grouped<BY_FIRST>) -> Desk<'a, BY_FIRST> {
         Desk {
             seats: [Seat::CLOSED; 8],
             next: 0,
-            board: vec![NONE; 8 * SHARE],
+            board: vec![NONE; BOARD],
             catalogue,
         }
     }
@@ -197,10 +103,12 @@ impl<'a> Desk<'a> {
     }
 
     fn first_at_work(&self) -> Option<(usize, Place)> {
-        (self.next..8).chain(0..self.next).find_map(|c| match self.seats[c].state {
-            State::AtWork(place) => Some((c, place)),
-            _ => None,
-        })
+        (self.next..8)
+            .chain(0..self.next)
+            .find_map(|c| match self.seats[c].state {
+                State::AtWork(place) => Some((c, place)),
+                _ => None,
+            })
     }
 
     /// Answers the turns made, and whether a seat is still at work.
