@@ -96,7 +96,12 @@ const SERIES: [(&str, &str); 2] = [("one seat", "#3c7ac4"), ("eight seats", "#e0
 
 /// Two bars for each name, and a line where both make as many steps.
 pub fn plot(title: &str, groups: &[Bars]) -> String {
-    let (left, top, unit, thick) = (330.0, 64.0, 300.0, 11.0);
+    let (left, top, width, thick) = (330.0, 64.0, 440.0, 11.0);
+    let longest = groups
+        .iter()
+        .flat_map(|bars| bars.ratios)
+        .fold(1.0, f64::max);
+    let unit = width / longest;
     let pitch = 2.0 * thick + 8.0;
     let bottom = top + pitch * groups.len() as f64;
     let mut svg = Svg::new(820.0, bottom + 24.0);
