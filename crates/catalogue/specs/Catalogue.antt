@@ -10,6 +10,10 @@ pub record Catalogue : Type 0 where
   pub sizes : List ℕ
   pub list : List ℕ
 
+-- a catalogue, of the two lists that every call is lent
+abbrev pub catalogueOf : List ℕ → List ℕ → Catalogue
+catalogueOf sizes list = record { sizes = sizes; list = list }
+
 -- 0 for a missing feature, so that it has no option
 abbrev pub sizeOf : Catalogue → ℕ → ℕ
 sizeOf catalogue f = getD (catalogue .sizes) f 0
