@@ -8,6 +8,8 @@ pub mod Bits
 pub mod NoBits
 pub mod Fits
 pub mod EveryBelow
+pub mod Filled
+pub mod Kept
 pub mod PlaceBounds
 pub mod ExamplePlaces
 pub mod Takes
@@ -38,4 +40,4 @@ pub mod Completions
 pub mod FirstBuild
 pub mod ReadyOnce
 pub mod ReadyJob
-pub mod LentState
+pub mod LentRecord

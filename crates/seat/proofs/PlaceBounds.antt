@@ -1,9 +1,11 @@
 -- A catalogue without a fault has 1 to 16 features of 1 to 16 options each. So every number of a place that fits it is
 -- below 16, and so is each option placed before the depth of a seat at work.
 use Prim.Native.Nat.{ℕ, _≤_, _<_}
-use mathlib.Core.Path.{_≡_}
+use mathlib.Core.Path.{_≡_, _∙_}
+use mathlib.Core.Logic.{⊎-elim}
 use native.Mathlib.Omega.{arith}
-use lib.ListN.{length, getD}
+use lib.ListN.{length, getD, set, length-set, List·getD-eq-default}
+use lib.Seq.{getD-set-same, getD-set-other}
 use Rattle.catalogue.specs.Catalogue.{Catalogue, sizeOf}
 use Rattle.catalogue.specs.Fault.{faultOf}
 use Rattle.catalogue.proofs.Faultless.{fault-zero, sizesFault-at}
@@ -11,7 +13,9 @@ use Rattle.seat.specs.declared.Seat.{Seat}
 use Rattle.seat.specs.declared.Place.{Place}
 use Rattle.seat.specs.declared.State.the-variants.{AtWork}
 use Rattle.seat.specs.Fit.{depthOf}
+use Rattle.seat.specs.Ways.{PlacedAt}
 use Rattle.seat.proofs.Fits.{PlaceFits, SeatFits}
+use Rattle.seat.proofs.Kept.{before-or-from}
 
 module _ (catalogue : Catalogue) (fault : faultOf catalogue ≡ 0) where
   pub few-features : length (catalogue .sizes) ≤ 16
@@ -46,3 +50,30 @@ module _ (catalogue : Catalogue) (fault : faultOf catalogue ≡ 0) where
         let within : f < length (catalogue .sizes) = omega (arith, place-at-work .depth-below) in
         let below = fits .placed-below f (omega (arith, few-features)) (rw at-depth l) in
         omega (arith, below, size-within f within)
+
+    module _ (sixteen : length (seat .trial) ≡ 16) where
+      pub nothing-from-depth : (f : ℕ) → p .depth ≤ f → getD (seat .trial) f 255 ≡ 255
+      nothing-from-depth f l =
+          let at-depth : depthOf (seat .state) ≡ p .depth = rw at-work in
+          ⊎-elim (λ (within : f < 16). fits .nothing-from f within (rw at-depth l))
+          (λ (past : 16 ≤ f). List·getD-eq-default (seat .trial) 255 (omega (arith, sixteen)))
+          (before-or-from f 16)
+
+      pub trial-bytes : (f : ℕ) → getD (seat .trial) f 255 < 256
+      trial-bytes f =
+          ⊎-elim (λ (placed : f < p .depth). omega (arith, placed-below-16 f placed))
+          (λ (past : p .depth ≤ f). omega (arith, nothing-from-depth f past))
+          (before-or-from f (p .depth))
+
+      -- what is placed where the next option is tried
+      pub placed-so : PlacedAt (p .depth) (p .next) (set (seat .trial) (p .depth) (p .next))
+      placed-so =
+          let deep = depth-below-16 place-at-work in
+          record {
+            sixteen = rw length-set sixteen;
+            there = getD-set-same (seat .trial) (p .depth) (p .next) 255 (omega (arith, sixteen));
+            options-before = λ (f : ℕ) (l : f < p .depth).
+                rw (getD-set-other (seat .trial) (p .depth) f (p .next) 255 (omega arith)) (omega (arith, placed-below-16 f l));
+            nothing-after = λ (f : ℕ) (l : p .depth < f).
+                getD-set-other (seat .trial) (p .depth) f (p .next) 255 (omega arith) ∙ nothing-from-depth f (omega arith);
+          }

@@ -11,12 +11,9 @@ pub record Clinic : Type 0 where
   pub seat : Seat
   pub share : List ℕ
 
--- a seat's record and a clinic, of their parts
-abbrev pub recordOf : State → List ℕ → List ℕ → List ℕ → Seat
-recordOf state choices masks trial = record { state = state; choices = choices; masks = masks; trial = trial }
-
-abbrev pub clinicOf : State → List ℕ → List ℕ → List ℕ → List ℕ → Clinic
-clinicOf state choices masks trial share = record { seat = recordOf state choices masks trial; share = share }
+-- a clinic, of its two parts
+abbrev pub clinicOf : Seat → List ℕ → Clinic
+clinicOf seat share = record { seat = seat; share = share }
 
 -- no choices, no options placed; no options left; a share that holds nothing
 abbrev pub nothing16 : List ℕ

@@ -1,24 +1,23 @@
 // One step of the written search.
 use crate::Place;
+use crate::Seat;
 use crate::State;
 use crate::candidates::Next;
 use crate::candidates::first_candidate;
 use crate::candidates::next_candidate;
-use crate::share::empty;
 use crate::share::write_example;
 ghost use mathlib.Core.Path.{_≡_};
-ghost use mathlib.Core.Bool.{true, false};
-ghost use Prim.Native.Nat.{ℕ, _<_, _≤_};
+ghost use mathlib.Core.Bool.{cond};
+ghost use Prim.Native.Nat.{ℕ, _+_, _<_, _≤_};
 ghost use lib.ListN.{length, getD, set};
-ghost use Rattle.catalogue.specs.Fault.{faultOf};
-ghost use Rattle.seat.specs.Candidates.{chosenOtherwise};
-ghost use Rattle.seat.specs.Bits.{withBit};
-ghost use Rattle.seat.specs.Clinic.{recordOf, clinicOf, nothing16, put, examplePlace};
-ghost use Rattle.seat.specs.Step.{givenUp, tried, started, afterPair, stepAt, step};
-ghost use Rattle.seat.specs.Fit.{seatFits, placeFits};
-ghost use Rattle.catalogue.specs.Starts.{AllStarts};
+ghost use Rattle.catalogue.specs.Catalogue.{catalogueOf};
+ghost use Rattle.seat.specs.declared.Seat.{Seat};
 ghost use Rattle.seat.specs.declared.State.the-variants.{AtWork};
-ghost use Rattle.seat.specs.Ways.{triedOf};
+ghost use Rattle.seat.specs.Candidates.{chosenOtherwise};
+ghost use Rattle.seat.specs.Clinic.{clinicOf};
+ghost use Rattle.seat.specs.Step.{givenUp, tried, started, afterPair, stepAt};
+ghost use Rattle.seat.specs.Ways.{keptBefore, PlacedAt, triedOf, depthIn, edgeBytes, StepNeeds, Stepped, TryNeeds};
+ghost use Rattle.seat.specs.Ways.{masksWith, seatAfter};
 
 // What comes of trying an option.
 pub enum Way {
@@ -27,77 +26,126 @@ pub enum Way {
     Exhausted,
 }
 
-// One step: state, masks, trial and share of the written search after it. A seat that is not at work makes none.
+// What a step comes to: the state after it, the depth before which options stay placed, and whether a build was found.
+pub struct After {
+    pub state: State,
+    pub depth: u8,
+    pub found: bool,
+}
+
+// One step: record and share of the written search after it. A seat that is not at work makes none.
 pub fn step(
-    state: State,
-    choices: &[u8],
-    masks: &mut [u16],
-    trial: &mut [u8],
+    seat: Seat,
     share: &mut [u8],
     sizes: &[u8],
     rules: &[u16],
     places: &[u16],
     counts: &[u8],
-) -> State
-    requires { ⌜ faultOf (record { sizes = now sizes; list = now rules }) ≡ 0 ⌝ }
-    requires { ⌜ seatFits (record { sizes = now sizes; list = now rules }) (recordOf state (now choices) (now masks) (now trial)) ≡ true ⌝ }
-    requires { ⌜ (length (now choices) ≡ 16) × (length (now masks) ≡ 16) × (length (now trial) ≡ 16) × (length (now share) ≡ 4096) ⌝ }
-    requires { ⌜ AllStarts (now rules) (now places) (now counts) ⌝ }
-    ensures { λ r. ⌜ clinicOf r (now (choices .entry)) (now (masks .exit)) (now (trial .exit)) (now (share .exit)) ≡ step (record { sizes = now (sizes .entry); list = now (rules .entry) }) (clinicOf state (now (choices .entry)) (now (masks .entry)) (now (trial .entry)) (now (share .entry))) ⌝ }
+    edge: &[u8],
+) -> Seat
+    requires { ⌜ StepNeeds (catalogueOf (now sizes) (now rules)) seat
+        (now share) (now places) (now counts) (now edge) ⌝ }
+    ensures { λ r. ⌜ Stepped (catalogueOf (now (sizes .entry)) (now (rules .entry)))
+        (clinicOf seat (now (share .entry))) (clinicOf r (now (share .exit))) ⌝ }
 {
+    let state = seat.state;
     match state {
-        State::Closed => state,
-        State::Ready => state,
-        State::AtWork(place) => step_at(
-            place,
-            choices,
-            masks,
-            trial,
-            share,
-            sizes,
-            rules,
-            places,
-            counts,
-        ),
+        State::Closed => seat,
+        State::Ready => seat,
+        State::AtWork(place) => step_at(seat, place, share, sizes, rules, places, counts, edge),
     }
 }
 
-// Rule 1, then the others. Masks and trial are changed where they stand, so that no record is copied out and back.
+// The record is only read, and each array of the new one is made whole, so that it is held in registers from one to the
+// other; what is placed is copied for the test alone, which looks it up by feature.
 fn step_at(
+    seat: Seat,
     place: Place,
-    choices: &[u8],
-    masks: &mut [u16],
-    trial: &mut [u8],
     share: &mut [u8],
     sizes: &[u8],
     rules: &[u16],
     places: &[u16],
     counts: &[u8],
-) -> State
-    requires { ⌜ faultOf (record { sizes = now sizes; list = now rules }) ≡ 0 ⌝ }
-    requires { ⌜ seatFits (record { sizes = now sizes; list = now rules }) (recordOf (AtWork place) (now choices) (now masks) (now trial)) ≡ true ⌝ }
-    requires { ⌜ (length (now choices) ≡ 16) × (length (now masks) ≡ 16) × (length (now trial) ≡ 16) × (length (now share) ≡ 4096) ⌝ }
-    requires { ⌜ AllStarts (now rules) (now places) (now counts) ⌝ }
-    ensures { λ r. ⌜ clinicOf r (now (choices .entry)) (now (masks .exit)) (now (trial .exit)) (now (share .exit)) ≡ stepAt (record { sizes = now (sizes .entry); list = now (rules .entry) }) place (clinicOf (AtWork place) (now (choices .entry)) (now (masks .entry)) (now (trial .entry)) (now (share .entry))) ⌝ }
+    edge: &[u8],
+) -> Seat
+    requires { ⌜ StepNeeds (catalogueOf (now sizes) (now rules)) seat
+        (now share) (now places) (now counts) (now edge) ⌝ }
+    requires { ⌜ seat .state ≡ AtWork place ⌝ }
+    ensures { λ r. ⌜ clinicOf r (now (share .exit))
+        ≡ stepAt (catalogueOf (now (sizes .entry)) (now (rules .entry))) place (clinicOf seat (now (share .entry))) ⌝ }
+{
+    let choices = seat.choices;
+    let masks = seat.masks;
+    let trial = seat.trial;
+    let mut placed = trial;
+    let j = place.depth as usize;
+    placed[j] = place.next;
+    let after = after_step(
+        place,
+        &choices,
+        &placed,
+        share,
+        sizes,
+        rules,
+        places,
+        counts,
+    );
+    let state = after.state;
+    Seat {
+        state,
+        choices,
+        masks: masks_after(masks, place.feature, place.option, after.found),
+        trial: trial_after(trial, edge, place.depth, place.next, after.depth),
+    }
+}
+
+// Rule 1, then the others; an example is written where a build is found.
+fn after_step(
+    place: Place,
+    choices: &[u8],
+    placed: &[u8],
+    share: &mut [u8],
+    sizes: &[u8],
+    rules: &[u16],
+    places: &[u16],
+    counts: &[u8],
+) -> After
+    requires { ⌜ TryNeeds (catalogueOf (now sizes) (now rules)) place
+        (now choices) (now placed) (now places) (now counts) ⌝ }
+    requires { ⌜ length (now share) ≡ 4096 ⌝ }
+    ensures { λ r. ⌜ r .depth ≤ place .depth + 1 ⌝ }
+    ensures { λ r. ⌜ ((seat : Seat) → seat .choices ≡ now (choices .entry)
+        → seat .trial ≡ keptBefore (place .depth) (now (placed .entry))
+        → clinicOf (seatAfter r place (now (placed .entry)) seat) (now (share .exit))
+        ≡ stepAt (catalogueOf (now (sizes .entry)) (now (rules .entry))) place (clinicOf seat (now (share .entry)))) ⌝ }
 {
     let feature = place.feature;
     let option = place.option;
     if chosen_otherwise(choices, feature, option) {
-        return pair_ended(trial, sizes, choices, feature, option);
+        return pair_ended(sizes, choices, feature, option, false);
     }
-    let way = try_next(place, choices, trial, sizes, rules, places, counts);
+    let way = try_next(place, choices, placed, sizes, rules, places, counts);
     match way {
-        Way::GoOn { depth, next } => State::AtWork(Place {
-            feature,
-            option,
-            depth,
-            next,
-        }),
-        Way::Build => {
-            with_example(masks, share, feature, option, trial);
-            pair_ended(trial, sizes, choices, feature, option)
+        Way::GoOn { depth, next } => {
+            let state = State::AtWork(Place {
+                feature,
+                option,
+                depth,
+                next,
+            });
+            After {
+                state,
+                depth,
+                found: false,
+            }
         }
-        Way::Exhausted => pair_ended(trial, sizes, choices, feature, option),
+        Way::Build => {
+            let i = feature as usize;
+            let a = option as usize;
+            write_example(share, i * 256 + a * 16, placed);
+            pair_ended(sizes, choices, feature, option, true)
+        }
+        Way::Exhausted => pair_ended(sizes, choices, feature, option, false),
     }
 }
 
@@ -114,35 +162,32 @@ fn chosen_otherwise(choices: &[u8], feature: u8, option: u8) -> bool
     choice != option
 }
 
-// Rules 2 to 5: the option is placed and tested against each rule whose highest-numbered feature is the depth. The trial
-// is changed where it stands; it has 255 at the depth, so that an option that fails its test leaves it as it was. Where
-// nothing is left to try it is of no account: `pair_ended` empties it.
+// Rules 2 to 5: what is placed, the option to be tried at the depth with it, is tested against each rule whose
+// highest-numbered feature is the depth.
 fn try_next(
     place: Place,
     choices: &[u8],
-    trial: &mut [u8],
+    placed: &[u8],
     sizes: &[u8],
     rules: &[u16],
     places: &[u16],
     counts: &[u8],
 ) -> Way
-    requires { ⌜ faultOf (record { sizes = now sizes; list = now rules }) ≡ 0 ⌝ }
-    requires { ⌜ placeFits (record { sizes = now sizes; list = now rules }) place ≡ true ⌝ }
-    requires { ⌜ (length (now choices) ≡ 16) × (length (now trial) ≡ 16) × ((f : ℕ) → f < place .depth → getD (now trial) f 255 < 255) × (getD (now trial) (place .depth) 255 ≡ 255) ⌝ }
-    requires { ⌜ AllStarts (now rules) (now places) (now counts) ⌝ }
-    ensures { λ r. ⌜ (length (now (trial .exit)) ≡ 16) × (triedOf r (now (trial .exit)) ≡ tried (record { sizes = now (sizes .entry); list = now (rules .entry) }) (now (choices .entry)) (place .feature) (place .option) (place .depth) (place .next) (now (trial .entry))) ⌝ }
+    requires { ⌜ TryNeeds (catalogueOf (now sizes) (now rules)) place
+        (now choices) (now placed) (now places) (now counts) ⌝ }
+    ensures { λ r. ⌜ depthIn r ≤ place .depth + 1 ⌝ }
+    ensures { λ r. ⌜ triedOf r (now (placed .entry))
+        ≡ tried (catalogueOf (now (sizes .entry)) (now (rules .entry))) (now (choices .entry)) (place .feature)
+        (place .option) (place .depth) (place .next) (keptBefore (place .depth) (now (placed .entry))) ⌝ }
 {
     let depth = place.depth;
     let option = place.option;
-    let next = place.next;
     let i = place.feature as usize;
     let j = depth as usize;
-    trial[j] = next;
     let from = j * 64;
     let to = from + byte(counts[j]);
-    if !catalogue::passes(rules, j, &places[from..to], trial) {
-        trial[j] = 255;
-        return given_up(sizes, choices, i, option, depth, next, trial);
+    if !catalogue::passes(rules, j, &places[from..to], placed) {
+        return given_up(sizes, choices, i, option, depth, placed);
     }
     if j + 1 == sizes.len() {
         return Way::Build;
@@ -155,23 +200,18 @@ fn try_next(
 }
 
 // Rule 5: the next greater candidate, at this depth or the nearest earlier one that has any.
-fn given_up(
-    sizes: &[u8],
-    choices: &[u8],
-    i: usize,
-    option: u8,
-    depth: u8,
-    v: u8,
-    trial: &mut [u8],
-) -> Way
-    requires { ⌜ (length (now choices) ≡ 16) × (length (now sizes) ≤ 16) × (depth < length (now sizes)) × (v < 255) ⌝ }
-    requires { ⌜ (length (now trial) ≡ 16) × ((f : ℕ) → f < depth → getD (now trial) f 255 < 255) ⌝ }
-    ensures { λ r. ⌜ (length (now (trial .exit)) ≡ 16) × (triedOf r (now (trial .exit)) ≡ givenUp (now (sizes .entry)) (now (choices .entry)) i option depth v (now (trial .entry))) ⌝ }
+fn given_up(sizes: &[u8], choices: &[u8], i: usize, option: u8, depth: u8, placed: &[u8]) -> Way
+    requires { ⌜ (length (now choices) ≡ 16) × (length (now sizes) ≤ 16) × (depth < length (now sizes)) ⌝ }
+    requires { ⌜ PlacedAt depth (getD (now placed) depth 255) (now placed) × (getD (now placed) depth 255 < 255) ⌝ }
+    ensures { λ r. ⌜ depthIn r ≤ depth ⌝ }
+    ensures { λ r. ⌜ triedOf r (now (placed .entry))
+        ≡ givenUp (now (sizes .entry)) (now (choices .entry)) i option depth (getD (now (placed .entry)) depth 255)
+        (keptBefore depth (now (placed .entry))) ⌝ }
 {
     let mut j = depth;
-    let mut given = v;
     loop {
-        match next_candidate(sizes, choices, i, option, j as usize, given) {
+        let at = j as usize;
+        match next_candidate(sizes, choices, i, option, at, placed[at]) {
             Next::Candidate(next) => {
                 return Way::GoOn { depth: j, next };
             }
@@ -181,36 +221,74 @@ fn given_up(
             return Way::Exhausted;
         }
         j -= 1;
-        let at = j as usize;
-        given = trial[at];
-        trial[at] = 255;
     }
 }
 
-// The example written into the share, the bit set in the mask.
-fn with_example(masks: &mut [u16], share: &mut [u8], feature: u8, option: u8, example: &[u8])
-    requires { ⌜ (feature < 16) × (option < 16) × (length (now masks) ≡ 16) × (length (now share) ≡ 4096) × (length (now example) ≡ 16) ⌝ }
-    ensures { λ _. ⌜ (now (masks .exit) ≡ set (now (masks .entry)) feature (withBit (getD (now (masks .entry)) feature 0) option)) × (now (share .exit) ≡ put (now (share .entry)) (examplePlace feature option) (now (example .entry))) ⌝ }
+// The masks, made whole: with the bit of an option for which a build was found.
+fn masks_after(masks: [u16; 16], feature: u8, option: u8, found: bool) -> [u16; 16]
+    requires { ⌜ (feature < 16) × (option < 16) ⌝ }
+    ensures { λ r. ⌜ r ≡ masksWith found feature option masks ⌝ }
 {
+    if !found {
+        return masks;
+    }
     let i = feature as usize;
-    let a = option as usize;
-    write_example(share, i * 256 + a * 16, example);
-    let mask = masks[i];
-    masks[i] = mask | (1u16 << option);
+    let bit = 1u16 << option;
+    let mut with = [0u16; 16];
+    let mut f = 0usize;
+    while f < 16 {
+        let mask = masks[f];
+        with[f] = pick(f == i, mask | bit, mask);
+        f += 1;
+    }
+    with
+}
+
+fn pick(there: bool, yes: u16, no: u16) -> u16
+    ensures { λ r. ⌜ r ≡ cond there yes no ⌝ }
+{
+    if there { yes } else { no }
+}
+
+// The trial, made whole: with `next` at the old depth, and 255 from the new one on. The edge is 255 before a depth, so
+// that sixteen entries are made at once.
+fn trial_after(trial: [u8; 16], edge: &[u8], depth: u8, next: u8, kept: u8) -> [u8; 16]
+    requires { ⌜ (depth < 16) × (kept ≤ depth + 1) × (now edge ≡ edgeBytes) ⌝ }
+    requires { ⌜ (getD trial depth 255 ≡ 255) × ((f : ℕ) → getD trial f 255 < 256) ⌝ }
+    ensures { λ r. ⌜ r ≡ keptBefore kept (set trial depth next) ⌝ }
+{
+    let old = 16 - depth as usize;
+    let new = 16 - kept as usize;
+    let mut after = [255u8; 16];
+    let mut f = 0usize;
+    while f < 16 {
+        after[f] = (trial[f] & (edge[old + f] | next)) | (255 - edge[new + f]);
+        f += 1;
+    }
+    after
 }
 
 // A pair ends, and the next starts in the same step; after the last the seat is ready.
-fn pair_ended(trial: &mut [u8], sizes: &[u8], choices: &[u8], feature: u8, option: u8) -> State
-    requires { ⌜ (length (now sizes) ≤ 16) × (feature < length (now sizes)) × (option < 16) × (length (now choices) ≡ 16) × (1 ≤ getD (now sizes) 0 0) ⌝ }
-    requires { ⌜ length (now trial) ≡ 16 ⌝ }
-    ensures { λ r. ⌜ (r ≡ afterPair (now (sizes .entry)) (now (choices .entry)) feature option) × (now (trial .exit) ≡ nothing16) ⌝ }
+fn pair_ended(sizes: &[u8], choices: &[u8], feature: u8, option: u8, found: bool) -> After
+    requires { ⌜ (length (now sizes) ≤ 16) × (feature < length (now sizes)) × (option < 16) ⌝ }
+    requires { ⌜ (length (now choices) ≡ 16) × (1 ≤ getD (now sizes) 0 0) ⌝ }
+    ensures { λ r. ⌜ r ≡ record {
+      state = afterPair (now (sizes .entry)) (now (choices .entry)) feature option;
+      depth = 0;
+      found = found;
+    } ⌝ }
 {
-    empty(trial);
-    after_pair(sizes, choices, feature, option)
+    let state = after_pair(sizes, choices, feature, option);
+    After {
+        state,
+        depth: 0,
+        found,
+    }
 }
 
 fn after_pair(sizes: &[u8], choices: &[u8], feature: u8, option: u8) -> State
-    requires { ⌜ (length (now sizes) ≤ 16) × (feature < length (now sizes)) × (option < 16) × (length (now choices) ≡ 16) × (1 ≤ getD (now sizes) 0 0) ⌝ }
+    requires { ⌜ (length (now sizes) ≤ 16) × (feature < length (now sizes)) × (option < 16) ⌝ }
+    requires { ⌜ (length (now choices) ≡ 16) × (1 ≤ getD (now sizes) 0 0) ⌝ }
     ensures { λ r. ⌜ r ≡ afterPair (now (sizes .entry)) (now (choices .entry)) feature option ⌝ }
 {
     let i = feature as usize;

@@ -1,6 +1,6 @@
--- `step_in` meets its contract: a walk of its code. The borrow of the state is opened, the state's value is handed whole to
--- `step`, of which the proof knows only that it meets its contract, what `step` returns is stored over it, and the borrow is
--- closed at that. No variant of the state is named. What `step_in` requires is what `step` requires, by computation.
+-- `step_in` meets its contract: a walk of its code. The borrow of the record is opened, the record's value is handed whole
+-- to `step`, of which the proof knows only that it meets its contract, what `step` returns is stored over it, and the borrow
+-- is closed at that. No field of the record is named. What `step_in` requires is what `step` requires, by computation.
 use mathlib.Core.Path.{_≡_, refl}
 use Prim.Native.Nat.{ℕ}
 use mathlib.Core.List.{[], _∷_, List}
@@ -26,12 +26,12 @@ use sound.WpLaws.{FmC, fmOf, WpFn-mono}
 use denote.RattleType.{RattleType, owns, flat}
 use denote.Laws.{Is, Ises, Are, shows, Spells, valss}
 use denote.Memory.{mem}
-use denote.Builtin.{u8, u16}
+use denote.Builtin.{u8}
 use denote.Ref.{MutRef, ptr-vals, mut-tells}
 use denote.Slice.{finally}
 use denote.Steps.{opens, closes, heard, peeks, nothing}
 use denote.Struct.Steps.{spelt}
-use denote.Enum.Laws as LL
+use denote.Struct.Laws as LL
 use denote.Signature.{plain, typesAt}
 use denote.Triple.Entry.{Args, Vals, alive, onEntry}
 use denote.Triple.Spec.{Meets, tripleOf}
@@ -40,11 +40,10 @@ use denote.Triple.Call.{calls-at}
 use denote.Triple.Clauses.{Lasts, ensured, lasts}
 use denote.Triple.Table.{entered, cited}
 use denote.Triple.Walked.{says, Stays, stay-ref, walkOf, goes-ref, Walks, ends-at, walked, walk-meets}
-use Rattle.seat.specs.declared.State.{State}
-use Rattle.seat.specs.Clinic.{clinicOf}
-use Rattle.seat.proofs.State as T
-use Rattle.seat.proofs.State.Laws as T′
-use Rattle.seat.proofs.LentState.{Lent, machine, values, typed, StepMade, Inside, slices, spelled, told, stay, go}
+use Rattle.seat.specs.declared.Seat.{Seat}
+use Rattle.seat.proofs.Seat as T
+use Rattle.seat.proofs.Seat.Laws as T′
+use Rattle.seat.proofs.LentRecord.{Record, machine, values, typed, StepMade, slices, spelled, told, stay, go}
 use Rattle.seat.proofs.search.step as step
 use Rattle.seat.proofs.search.step.Symbol as step-def
 use Rattle.seat.proofs.search.step.Symbol.{name as #seat·step}
@@ -54,24 +53,21 @@ use Rattle.seat.proofs.lent.step_in as step-in
 use Rattle.seat.proofs.lent.step_in.Statement as stated
 use Rattle.seat.proofs.lent.step_in.Code as code
 
--- the slices are at the lifetimes after the state's
-abbrev inside : Inside 9 1
-inside = (tt, (tt, (tt, (tt, (tt, (tt, (tt, tt)))))))
-
 abbrev stayed : Stays (step-in.ended .signature .params) (step-in.ended .kept)
-stayed = (stay-ref (0 ∷ []) tt (plain (λ _. Lent)), stay 9 1 inside)
+stayed = (stay-ref (0 ∷ []) tt (plain (λ _. Record)), stay 7 1 (tt, (tt, (tt, (tt, (tt, tt))))))
 
 -- the contract that the proof cites
 abbrev Step : {M : Type 1} (𝓤 : URA M) (H : Heap 𝓤) (A : Atoms 𝓤) (mem : Memory → SProp 𝓤) (run : Routine → Fun 𝓤) → Contract 𝓤
 Step 𝓤 H A mem run = tripleOf 𝓤 H A step.signature (step.spec 𝓤 H A mem run)
 
-abbrev beside : Lfts 9 → List RattleType
-beside κs = slices 9 1 inside κs
+-- the slices are at the lifetimes after the record's
+abbrev beside : Lfts 7 → List RattleType
+beside κs = slices 7 1 (tt, (tt, (tt, (tt, (tt, tt))))) κs
 
-abbrev spelt-all : (κs : Lfts 9) → Spells (typesAt (step-in.signature .params) κs)
-spelt-all κs = (ptr-vals, spelled 9 1 inside κs)
+abbrev spelt-all : (κs : Lfts 7) → Spells (typesAt (step-in.signature .params) κs)
+spelt-all κs = (ptr-vals, spelled 7 1 (tt, (tt, (tt, (tt, (tt, tt))))) κs)
 
-module _ {M : Type 1} (𝓤 : URA M) (H : Heap 𝓤) (A : Atoms 𝓤) (W : Given 𝓤 H A) (at-mem : Memory → SProp 𝓤) (run : Routine → Fun 𝓤) (κs : Lfts 9) (qs : Shares 9) (a : Args step-in.signature κs) where
+module _ {M : Type 1} (𝓤 : URA M) (H : Heap 𝓤) (A : Atoms 𝓤) (W : Given 𝓤 H A) (at-mem : Memory → SProp 𝓤) (run : Routine → Fun 𝓤) (κs : Lfts 7) (qs : Shares 7) (a : Args step-in.signature κs) where
   abbrev b : ℕ
   b = a .0 .ptr .0
 
@@ -81,7 +77,7 @@ module _ {M : Type 1} (𝓤 : URA M) (H : Heap 𝓤) (A : Atoms 𝓤) (W : Given
   abbrev γ : GName
   γ = a .0 .name
 
-  abbrev h : State
+  abbrev h : Seat
   h = a .0 .now
 
   abbrev vss : Vals step-in.signature κs
@@ -90,7 +86,7 @@ module _ {M : Type 1} (𝓤 : URA M) (H : Heap 𝓤) (A : Atoms 𝓤) (W : Given
   abbrev Post : Val → SProp 𝓤
   Post = walkOf 𝓤 H A step-in.ended stayed (step-in.clauses 𝓤 H A at-mem run) .post ((κs, qs, tt, a, vss), tt)
 
-  -- what `step`'s triple binds outside: the state's value in the place of its reference, and the slices as they came
+  -- what `step`'s triple binds outside: the record's value in the place of its reference, and the slices as they came
   abbrev passed : Args step.signature (κs .1)
   passed = (h, a .1)
 
@@ -101,80 +97,66 @@ module _ {M : Type 1} (𝓤 : URA M) (H : Heap 𝓤) (A : Atoms 𝓤) (W : Given
   abbrev tokens : SProp 𝓤
   tokens = alive 𝓤 H A step.signature (κs .1) (qs .1)
 
-  -- what `step` ensures of the state r and the last masks, trial and share that it leaves
-  abbrev Made : State → Lasts step.ended (κs .1) passed → Type 0
-  Made r ws =
-      let choices = a .1 .0 .now in
-      StepMade (a .1 .1 .1 .1 .1 .0 .now) (a .1 .1 .1 .1 .1 .1 .0 .now) (clinicOf h choices (a .1 .1 .0 .now) (a .1 .1 .1 .0 .now) (a .1 .1 .1 .1 .0 .now)) (clinicOf r choices (ws .1 .1 .0) (ws .1 .1 .1 .0) (ws .1 .1 .1 .1 .0))
+  -- what `step` ensures of the record r and the share ys that it leaves
+  abbrev Made : Seat → List ℕ → Type 0
+  Made r ys = StepMade (a .1 .1 .0 .now) (a .1 .1 .1 .0 .now) h (a .1 .0 .now) r ys
 
-  -- that the slices that are written are as long as they were
-  abbrev SameLengths : Lasts step.ended (κs .1) passed → Type 0
-  SameLengths ws =
-      (length (ws .1 .1 .0) ≡ length (a .1 .1 .0 .now)) × ((length (ws .1 .1 .1 .0) ≡ length (a .1 .1 .1 .0 .now)) × (length (ws .1 .1 .1 .1 .0) ≡ length (a .1 .1 .1 .1 .0 .now)))
-
-  exits : (r : State) (ws : Lasts step.ended (κs .1) passed) → SameLengths ws → Made r ws
-      → ent 𝓤 (⋆ 𝓤 H A (‵ (fobs γ (Lent .coded .code r)) ∷ ‵ (fbor (κs .0) (Body (mem Lent) b o γ)) ∷ ‵ (flft (κs .0) (qs .0)) ∷ raw tokens ∷ ‵ (finally u8 (a .1 .1 .1 .1 .0 .name) (ws .1 .1 .1 .1 .0)) ∷ ‵ (finally u8 (a .1 .1 .1 .0 .name) (ws .1 .1 .1 .0)) ∷ ‵ (finally u16 (a .1 .1 .0 .name) (ws .1 .1 .0)) ∷ [])) (Post vunit)
+  exits : (r : Seat) (ws : Lasts step.ended (κs .1) passed) → length (ws .1 .0) ≡ length (a .1 .0 .now) → Made r (ws .1 .0)
+      → ent 𝓤 (⋆ 𝓤 H A (‵ (fobs γ (Record .coded .code r)) ∷ ‵ (fbor (κs .0) (Body (mem Record) b o γ)) ∷ ‵ (flft (κs .0) (qs .0)) ∷ raw tokens ∷ ‵ (finally u8 (a .1 .0 .name) (ws .1 .0)) ∷ [])) (Post vunit)
   exits r ws l e =
-      qed W (‵ (fobs γ (Lent .coded .code r)) ∷ ‵ (fbor (κs .0) (Body (mem Lent) b o γ)) ∷ ‵ (flft (κs .0) (qs .0)) ∷ raw tokens ∷ ‵ (finally u8 (a .1 .1 .1 .1 .0 .name) (ws .1 .1 .1 .1 .0)) ∷ ‵ (finally u8 (a .1 .1 .1 .0 .name) (ws .1 .1 .1 .0)) ∷ ‵ (finally u16 (a .1 .1 .0 .name) (ws .1 .1 .0)) ∷ []) ∵
-      suffices ! _ (ends-at 𝓤 H A step-in.ended stayed (step-in.clauses 𝓤 H A at-mem run) W ((κs, qs, tt, a, vss), tt) vunit tt (r, ws .1) (tt, (tt, (l .0, (l .1 .0, (l .1 .1, (tt, (tt, (tt, (tt, tt)))))))))) $ says ! e $
-      feqI ! (List Val) (vptr b o ∷ []) (vptr b o ∷ []) refl $ fjoin3 ! $ nothing ! $ nothing ! $ fjoin ! $ nothing ! $ fjoin ! $ nothing ! $ fjoin ! $ nothing ! $ fjoin ! $
-      -- [nothing of the last four slices; the state's reference; its token; the others'; the last share, trial and masks]
-      move ! (4 ∷ 0 ∷ []) $ fjoin ! $ move ! (4 ∷ 0 ∷ []) $ fjoin ! $ move ! (4 ∷ 0 ∷ []) $ fjoin ! $ nothing ! $ fjoin ! $
-      move ! (1 ∷ 0 ∷ []) $ fjoin ! $ feqI ! (List Val) (vunit ∷ []) (vunit ∷ []) refl $ move ! (1 ∷ 0 ∷ []) $ join ! $ move ! (1 ∷ 2 ∷ []) $ join ! $ done !
+      qed W (‵ (fobs γ (Record .coded .code r)) ∷ ‵ (fbor (κs .0) (Body (mem Record) b o γ)) ∷ ‵ (flft (κs .0) (qs .0)) ∷ raw tokens ∷ ‵ (finally u8 (a .1 .0 .name) (ws .1 .0)) ∷ []) ∵
+      suffices ! _ (ends-at 𝓤 H A step-in.ended stayed (step-in.clauses 𝓤 H A at-mem run) W ((κs, qs, tt, a, vss), tt) vunit tt (r, ws .1) (tt, (l, (tt, (tt, (tt, (tt, (tt, tt)))))))) $ says ! e $
+      feqI ! (List Val) (vptr b o ∷ []) (vptr b o ∷ []) refl $ fjoin3 ! $ nothing ! $ nothing ! $ fjoin ! $ nothing ! $ fjoin ! $ nothing ! $ fjoin ! $ nothing ! $ fjoin ! $ nothing ! $ fjoin ! $
+      -- [nothing of the `&` slices; the record's reference; its token; the others'; the last share]
+      move ! (4 ∷ 0 ∷ []) $ fjoin ! $ move ! (1 ∷ 0 ∷ []) $ fjoin ! $ feqI ! (List Val) (vunit ∷ []) (vunit ∷ []) refl $ move ! (1 ∷ 0 ∷ []) $ join ! $ move ! (1 ∷ 2 ∷ []) $ join ! $ done !
 
   module _ (C : Calls 𝓤 H) (Λ : Loops 𝓤 H) (fm : FmC 𝓤 H (W .laws) C) (known : Triple 𝓤 (C #seat·step) (Step 𝓤 H A at-mem run)) where
     walk : Are (beside κs) (Ises (beside κs)) (a .1) (vss .1)
         → ent 𝓤 (sep 𝓤 (onEntry 𝓤 H A step-in.signature κs qs a vss) (step-in.clauses 𝓤 H A at-mem run κs a .requires tt)) (WpFn 𝓤 H C Λ code.function (flat (typesAt (step-in.signature .params) κs) vss) Post)
     walk are =
-        qed W (((‵ (flft (κs .0) (qs .0)) ⊛ raw tokens) ⊛ ‵ (owns (MutRef (named 0) (κs .0) Lent ∷ beside κs) a vss)) ∷ raw (step-in.clauses 𝓤 H A at-mem run κs a .requires tt) ∷ []) ∵
+        qed W (((‵ (flft (κs .0) (qs .0)) ⊛ raw tokens) ⊛ ‵ (owns (MutRef (named 0) (κs .0) Record ∷ beside κs) a vss)) ∷ raw (step-in.clauses 𝓤 H A at-mem run κs a .requires tt) ∷ []) ∵
         split ! $ split ! $ move ! (2 ∷ []) $ fsplit ! $ fsplit3 ! $ drop ! $ move ! (0 ∷ 1 ∷ 3 ∷ []) $
-        -- [what observes the state; the borrow; its token; what the slices own; their tokens; what is required]
+        -- [what observes the record; the borrow; its token; what the slices own; their tokens; what is required]
         enter ! C Λ code.function _ _ $
-        alloc1 ! (λ l₀. alloc1 ! (λ l₁. alloc1 ! (λ l₂. alloc1 ! (λ l₃. alloc1 ! (λ l₄. alloc1 ! (λ l₅. alloc1 ! (λ l₆. alloc1 ! (λ l₇. alloc1 ! (λ l₈. alloc1 ! (λ l₉. alloc1 ! (λ l₁₀. alloc1 ! (λ l₁₁. alloc1 ! (λ l₁₂. alloc1 ! (λ l₁₃. alloc1 ! (λ l₁₄. alloc1 ! (λ l₁₅. alloc1 ! (λ l₁₆. alloc1 ! (λ l₁₇. alloc0 ! $ params1 ! $
-        pass1 ! (init ! 32 refl (tt, tt)) $ pass1 ! (init ! 30 refl (tt, (tt, (record { fits = are .0 .0 .1 .0 }, tt)))) $ pass1 ! (init ! 28 refl (tt, (tt, (record { fits = are .1 .0 .0 .1 .0 }, tt)))) $
-        pass1 ! (init ! 26 refl (tt, (tt, (record { fits = are .1 .1 .0 .0 .1 .0 }, tt)))) $ pass1 ! (init ! 24 refl (tt, (tt, (record { fits = are .1 .1 .1 .0 .0 .1 .0 }, tt)))) $ pass1 ! (init ! 22 refl (tt, (tt, (record { fits = are .1 .1 .1 .1 .0 .0 .1 .0 }, tt)))) $
-        pass1 ! (init ! 20 refl (tt, (tt, (record { fits = are .1 .1 .1 .1 .1 .0 .0 .1 .0 }, tt)))) $ pass1 ! (init ! 18 refl (tt, (tt, (record { fits = are .1 .1 .1 .1 .1 .1 .0 .0 .1 .0 }, tt)))) $ pass1 ! (init ! 16 refl (tt, (tt, (record { fits = are .1 .1 .1 .1 .1 .1 .1 .0 .0 .1 .0 }, tt)))) $ pass0 ! $
-        move ! (36 ∷ 37 ∷ 38 ∷ []) $ opens ! tt Lent {h = h} b o (λ vs. spelt ! Lent (Is Lent) (shows 𝓤 H A Lent) values (LL.tells T.the-type T′.the-laws) fullShare h vs b o $
-        move ! (1 ∷ []) $ peeks ! Lent (Is Lent) (shows 𝓤 H A Lent) h (values h) (λ is.
-        -- [what the state owns; its cell; the open borrow; obs; auth; _17; …; _16; …; down to _1; …; room for _0; …; what the slices own; their tokens; what is required]
-        assigns ! (of-opd ! (load ! (from ! (hop ! (look ! 37 refl) (stop !))) (look-raw ! 1 refl))) (from ! (stop !)) (init ! 17 refl (typed 𝓤 H A W h (machine h) is)) $
-        -- the masks, the trial and the share are lent on
-        assigns ! (addr ! (from ! (fld ! refl (hop ! (look-in ! 33 (sub ! 0 refl (whole !))) (stop !))))) (from ! (stop !)) (init ! 15 refl (tt, tt)) $
-        assigns ! (agg ! (and-then ! (load ! (from ! (stop !)) (look ! 15 refl)) (and-then ! (load ! (from ! (fld ! refl (stop !))) (look-in ! 33 (sub ! 1 refl (whole !)))) (no-more !)))) (from ! (stop !)) (init ! 13 refl (tt, (tt, (record { fits = are .1 .0 .0 .1 .0 }, tt)))) $
-        assigns ! (addr ! (from ! (fld ! refl (hop ! (look-in ! 31 (sub ! 0 refl (whole !))) (stop !))))) (from ! (stop !)) (init ! 11 refl (tt, tt)) $
-        assigns ! (agg ! (and-then ! (load ! (from ! (stop !)) (look ! 11 refl)) (and-then ! (load ! (from ! (fld ! refl (stop !))) (look-in ! 31 (sub ! 1 refl (whole !)))) (no-more !)))) (from ! (stop !)) (init ! 9 refl (tt, (tt, (record { fits = are .1 .1 .0 .0 .1 .0 }, tt)))) $
-        assigns ! (addr ! (from ! (fld ! refl (hop ! (look-in ! 29 (sub ! 0 refl (whole !))) (stop !))))) (from ! (stop !)) (init ! 7 refl (tt, tt)) $
-        assigns ! (agg ! (and-then ! (load ! (from ! (stop !)) (look ! 7 refl)) (and-then ! (load ! (from ! (fld ! refl (stop !))) (look-in ! 29 (sub ! 1 refl (whole !)))) (no-more !)))) (from ! (stop !)) (init ! 5 refl (tt, (tt, (record { fits = are .1 .1 .1 .0 .0 .1 .0 }, tt)))) $
-        move ! (0 ∷ 41 ∷ []) $ fjoin ! $ move ! (41 ∷ 0 ∷ []) $ join ! $ move ! (0 ∷ 41 ∷ []) $ join ! $ use1 W (raw (Step 𝓤 H A at-mem run .pre to-step)) (id⊢ 𝓤 _) $
+        alloc1 ! (λ l₀. alloc1 ! (λ l₁. alloc1 ! (λ l₂. alloc1 ! (λ l₃. alloc1 ! (λ l₄. alloc1 ! (λ l₅. alloc1 ! (λ l₆. alloc1 ! (λ l₇. alloc1 ! (λ l₈. alloc1 ! (λ l₉. alloc1 ! (λ l₁₀. alloc1 ! (λ l₁₁. alloc0 ! $ params1 ! $
+        pass1 ! (init ! 20 refl (tt, tt)) $ pass1 ! (init ! 18 refl (tt, (tt, (record { fits = are .0 .0 .1 .0 }, tt)))) $ pass1 ! (init ! 16 refl (tt, (tt, (record { fits = are .1 .0 .0 .1 .0 }, tt)))) $
+        pass1 ! (init ! 14 refl (tt, (tt, (record { fits = are .1 .1 .0 .0 .1 .0 }, tt)))) $ pass1 ! (init ! 12 refl (tt, (tt, (record { fits = are .1 .1 .1 .0 .0 .1 .0 }, tt)))) $
+        pass1 ! (init ! 10 refl (tt, (tt, (record { fits = are .1 .1 .1 .1 .0 .0 .1 .0 }, tt)))) $
+        pass1 ! (init ! 8 refl (tt, (tt, (record { fits = are .1 .1 .1 .1 .1 .0 .0 .1 .0 }, tt)))) $ pass0 ! $
+        move ! (24 ∷ 25 ∷ 26 ∷ []) $ opens ! tt Record {h = h} b o (λ vs. spelt ! Record (Is Record) (shows 𝓤 H A Record) values (LL.tells T.the-type T′.the-laws) fullShare h vs b o $
+        move ! (1 ∷ []) $ peeks ! Record (Is Record) (shows 𝓤 H A Record) h (values h) (λ is.
+        -- [what the record owns; its cell; the open borrow; obs; auth; _11; …; _10; …; _9; …; _8; …; _7 to _3; _2; …; _1; …; room for _0; …; what the slices own; their tokens; what is required]
+        assigns ! (of-opd ! (load ! (from ! (hop ! (look ! 25 refl) (stop !))) (look-raw ! 1 refl))) (from ! (stop !)) (init ! 9 refl (typed 𝓤 H A W h (machine h) is)) $
+        assigns ! (addr ! (from ! (fld ! refl (hop ! (look-in ! 23 (sub ! 0 refl (whole !))) (stop !))))) (from ! (stop !)) (init ! 7 refl (tt, tt)) $
+        assigns ! (agg ! (and-then ! (load ! (from ! (stop !)) (look ! 7 refl)) (and-then ! (load ! (from ! (fld ! refl (stop !))) (look-in ! 23 (sub ! 1 refl (whole !)))) (no-more !)))) (from ! (stop !)) (init ! 5 refl (tt, (tt, (record { fits = are .0 .0 .1 .0 }, tt)))) $
+        move ! (0 ∷ 29 ∷ []) $ fjoin ! $ move ! (29 ∷ 0 ∷ []) $ join ! $ move ! (0 ∷ 29 ∷ []) $ join ! $ use1 W (raw (Step 𝓤 H A at-mem run .pre to-step)) (id⊢ 𝓤 _) $
         calls-at ! fm (Step 𝓤 H A at-mem run) known to-step
-        (and-then ! (load ! (from ! (stop !)) (look ! 17 refl)) (and-then ! (load ! (from ! (stop !)) (look ! 35 refl)) (and-then ! (load ! (from ! (stop !)) (look ! 13 refl)) (and-then ! (load ! (from ! (stop !)) (look ! 9 refl)) (and-then ! (load ! (from ! (stop !)) (look ! 5 refl)) (and-then ! (load ! (from ! (stop !)) (look ! 27 refl)) (and-then ! (load ! (from ! (stop !)) (look ! 25 refl)) (and-then ! (load ! (from ! (stop !)) (look ! 23 refl)) (and-then ! (load ! (from ! (stop !)) (look ! 21 refl)) (no-more !)))))))))) (λ v.
-        use1 W (later (some (λ (r : State). (raw tokens ⊛ ‵ (Lent .own r (v ∷ []))) ⊛ raw (ensured 𝓤 H A step.ended (step.clauses 𝓤 H A at-mem run) (κs .1) passed tt r)))) (id⊢ 𝓤 _) $ await ! tt $ pick ! (λ r.
-        -- what `step` ensures, at some last masks, trial and share
-        split ! $ move ! (1 ∷ []) $ use1 W (some (λ (ws : Lasts step.ended (κs .1) passed). ‵ (lasts step.ended (κs .1) passed ws) ⊛ raw (fact 𝓤 (Made r ws)))) (id⊢ 𝓤 _) $ pick ! (λ ws.
-        split ! $ move ! (1 ∷ []) $ heard ! (Made r ws) (λ e. fsplit ! $ drop ! $ fsplit ! $ drop ! $
-        fsplit ! $ fsplit ! $ move ! (1 ∷ []) $ feqL ! (λ masks-long. move ! (1 ∷ []) $ fsplit ! $ fsplit ! $ move ! (1 ∷ []) $ feqL ! (λ trial-long. move ! (1 ∷ []) $ fsplit ! $ fsplit ! $ move ! (1 ∷ []) $ feqL ! (λ share-long.
-        move ! (4 ∷ []) $ split ! $ move ! (1 ∷ []) $ peeks ! Lent (Is Lent) (shows 𝓤 H A Lent) r (v ∷ []) (λ is′.
-        -- [what the new state owns; the tokens; the last share; …; the last trial; the last masks; the cell; the open borrow; obs; auth; _17; …; down to _1; …; room for _0; …]
-        land ! (from ! (stop !)) (init ! 24 refl (typed 𝓤 H A W r v is′)) $
-        assigns ! (of-opd ! (load ! (from ! (stop !)) (look ! 24 refl))) (from ! (hop ! (look ! 42 refl) (stop !))) (store-raw ! 6 refl (typed 𝓤 H A W r v is′)) $
-        assigns ! (of-opd ! (unit-lit !)) (from ! (stop !)) (init ! 44 refl (tt, tt)) $
-        move ! (6 ∷ 0 ∷ 7 ∷ 8 ∷ 9 ∷ []) $ closes ! tt Lent r (v ∷ []) b o $
-        returns ! (look ! 42 refl) $ forget ! 8 refl $ forget ! 10 refl $ forget ! 12 refl $ forget ! 14 refl $ forget ! 16 refl $ forget ! 18 refl $ forget ! 20 refl $ forget ! 22 refl $ forget ! 24 refl $ forget ! 26 refl $ forget ! 28 refl $ forget ! 30 refl $ forget ! 32 refl $ forget ! 34 refl $ forget ! 36 refl $ forget ! 38 refl $ forget ! 40 refl $ forget ! 42 refl $
-        move ! (42 ∷ 43 ∷ []) $ free1 ! $ move ! (40 ∷ 41 ∷ []) $ free1 ! $ move ! (38 ∷ 39 ∷ []) $ free1 ! $ move ! (36 ∷ 37 ∷ []) $ free1 ! $ move ! (34 ∷ 35 ∷ []) $ free1 ! $ move ! (32 ∷ 33 ∷ []) $ free1 ! $
-        move ! (30 ∷ 31 ∷ []) $ free1 ! $ move ! (28 ∷ 29 ∷ []) $ free1 ! $ move ! (26 ∷ 27 ∷ []) $ free1 ! $ move ! (24 ∷ 25 ∷ []) $ free1 ! $ move ! (22 ∷ 23 ∷ []) $ free1 ! $ move ! (20 ∷ 21 ∷ []) $ free1 ! $
-        move ! (18 ∷ 19 ∷ []) $ free1 ! $ move ! (16 ∷ 17 ∷ []) $ free1 ! $ move ! (14 ∷ 15 ∷ []) $ free1 ! $ move ! (12 ∷ 13 ∷ []) $ free1 ! $ move ! (10 ∷ 11 ∷ []) $ free1 ! $ move ! (8 ∷ 9 ∷ []) $ free1 ! $ free0 ! $
-        keep ! (0 ∷ 1 ∷ 2 ∷ 3 ∷ 4 ∷ 6 ∷ 7 ∷ []) $ by ! (exits r ws (masks-long, (trial-long, share-long)) e)))))))))))))))))))))))))))))
+        (and-then ! (load ! (from ! (stop !)) (look ! 9 refl)) (and-then ! (load ! (from ! (stop !)) (look ! 5 refl)) (and-then ! (load ! (from ! (stop !)) (look ! 21 refl)) (and-then ! (load ! (from ! (stop !)) (look ! 19 refl)) (and-then ! (load ! (from ! (stop !)) (look ! 17 refl)) (and-then ! (load ! (from ! (stop !)) (look ! 15 refl)) (and-then ! (load ! (from ! (stop !)) (look ! 13 refl)) (no-more !)))))))) (λ v.
+        use1 W (later (some (λ (r : Seat). (raw tokens ⊛ ‵ (Record .own r (v ∷ []))) ⊛ raw (ensured 𝓤 H A step.ended (step.clauses 𝓤 H A at-mem run) (κs .1) passed tt r)))) (id⊢ 𝓤 _) $ await ! tt $ pick ! (λ r.
+        -- what `step` ensures, at some last share
+        split ! $ move ! (1 ∷ []) $ use1 W (some (λ (ws : Lasts step.ended (κs .1) passed). ‵ (lasts step.ended (κs .1) passed ws) ⊛ raw (fact 𝓤 (Made r (ws .1 .0))))) (id⊢ 𝓤 _) $ pick ! (λ ws.
+        split ! $ move ! (1 ∷ []) $ heard ! (Made r (ws .1 .0)) (λ e. fsplit ! $ drop ! $ fsplit ! $ fsplit ! $ move ! (1 ∷ []) $ feqL ! (λ l.
+        move ! (2 ∷ []) $ split ! $ move ! (1 ∷ []) $ peeks ! Record (Is Record) (shows 𝓤 H A Record) r (v ∷ []) (λ is′.
+        -- [what the new record owns; the tokens; the last share; …; the cell; the open borrow; obs; auth; _11; …; _10; …; _9; …; _8; …; _7 to _2; _1; …; room for _0; …]
+        land ! (from ! (stop !)) (init ! 14 refl (typed 𝓤 H A W r v is′)) $
+        assigns ! (of-opd ! (load ! (from ! (stop !)) (look ! 14 refl))) (from ! (hop ! (look ! 28 refl) (stop !))) (store-raw ! 4 refl (typed 𝓤 H A W r v is′)) $
+        assigns ! (of-opd ! (unit-lit !)) (from ! (stop !)) (init ! 30 refl (tt, tt)) $
+        move ! (4 ∷ 0 ∷ 5 ∷ 6 ∷ 7 ∷ []) $ closes ! tt Record r (v ∷ []) b o $
+        returns ! (look ! 28 refl) $ forget ! 6 refl $ forget ! 8 refl $ forget ! 10 refl $ forget ! 12 refl $ forget ! 14 refl $ forget ! 16 refl $ forget ! 18 refl $ forget ! 20 refl $ forget ! 22 refl $ forget ! 24 refl $ forget ! 26 refl $ forget ! 28 refl $
+        move ! (28 ∷ 29 ∷ []) $ free1 ! $ move ! (26 ∷ 27 ∷ []) $ free1 ! $ move ! (24 ∷ 25 ∷ []) $ free1 ! $ move ! (22 ∷ 23 ∷ []) $ free1 ! $ move ! (20 ∷ 21 ∷ []) $ free1 ! $ move ! (18 ∷ 19 ∷ []) $ free1 ! $ move ! (16 ∷ 17 ∷ []) $ free1 ! $
+        move ! (14 ∷ 15 ∷ []) $ free1 ! $ move ! (12 ∷ 13 ∷ []) $ free1 ! $ move ! (10 ∷ 11 ∷ []) $ free1 ! $ move ! (8 ∷ 9 ∷ []) $ free1 ! $ move ! (6 ∷ 7 ∷ []) $ free1 ! $ free0 ! $
+        keep ! (0 ∷ 1 ∷ 2 ∷ 3 ∷ 4 ∷ []) $ by ! (exits r ws l e)))))))))))))))))))))
 
 module _ {M : Type 1} (𝓤 : URA M) (H : Heap 𝓤) (A : Atoms 𝓤) (W : Given 𝓤 H A) (mem : Memory → SProp 𝓤) (run : Routine → Fun 𝓤) where
   step-in-walks : (C : Calls 𝓤 H) (Λ : Loops 𝓤 H) → FmC 𝓤 H (W .laws) C → Triple 𝓤 (C #seat·step) (Step 𝓤 H A mem run) → Walks 𝓤 H A step-in.ended stayed (WpFn 𝓤 H C Λ code.function) (step-in.clauses 𝓤 H A mem run)
   step-in-walks C Λ fm known = walked 𝓤 H A step-in.ended stayed (step-in.clauses 𝓤 H A mem run) (WpFn 𝓤 H C Λ code.function) spelt-all
-      (λ κs. (mut-tells (named 0) (κs .0) Lent, told 9 1 inside κs))
+      (λ κs. (mut-tells (named 0) (κs .0) Record, told 7 1 (tt, (tt, (tt, (tt, (tt, tt))))) κs))
       (λ κs qs bounds a g are. walk 𝓤 H A W mem run κs qs a C Λ fm known (are .1))
 
 step-in-meets : {M : Type 1} (𝓤 : URA M) (H : Heap 𝓤) (A : Atoms 𝓤) → Given 𝓤 H A → (mem : Memory → SProp 𝓤) (run : Routine → Fun 𝓤) (𝓣 : Tables 𝓤 H) → Triple 𝓤 (𝓣 .C #seat·step) (Step 𝓤 H A mem run)
     → Meets 𝓤 H A step-in.signature (WpFn 𝓤 H (𝓣 .C) (𝓣 .Λ) code.function) (step-in.spec 𝓤 H A mem run)
 step-in-meets 𝓤 H A W mem run 𝓣 known =
-    walk-meets 𝓤 H A step-in.ended stayed W (goes-ref 𝓤 H A W 9 0 tt (plain (λ _. Lent)), go 9 1 inside 𝓤 H A W) (step-in.clauses 𝓤 H A mem run)
+    walk-meets 𝓤 H A step-in.ended stayed W (goes-ref 𝓤 H A W 7 0 tt (plain (λ _. Record)), go 7 1 (tt, (tt, (tt, (tt, (tt, tt))))) 𝓤 H A W) (step-in.clauses 𝓤 H A mem run)
     (WpFn 𝓤 H (𝓣 .C) (𝓣 .Λ) code.function) (WpFn-mono 𝓤 H (W .laws) 𝓣 code.function) (step-in-walks 𝓤 H A W mem run (𝓣 .C) (𝓣 .Λ) (fmOf 𝓤 H (W .laws) 𝓣) known)
 
 pub step-in-spec : {M : Type 1} → stated.statement M

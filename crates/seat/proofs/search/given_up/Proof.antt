@@ -1,101 +1,112 @@
--- Going back, a depth a turn: giving up what is given up now comes to the same as giving up v at the first depth. What is
--- placed before the depth is below 255, so that the number after it is one of the code's bytes too.
-use Prim.Native.Nat.{ℕ, _≤_, _<_, _-_}
-use mathlib.Core.Path.{_≡_, sym, ap, _∙_}
-use native.Mathlib.Omega.{arith}
-use lib.ListN.{length, getD, length-set}
-use lib.Seq.{getD-set-other}
+-- Going back, a depth a turn: giving up what is placed at the depth now comes to the same as giving up what was tried. What
+-- is placed up to the first depth is below 255, so that the number after it is one of the code's bytes too.
+use Prim.Native.Nat.{ℕ, _+_, _-_, _≤_, _<_}
+use mathlib.Core.Path.{_≡_, refl, sym, ap, _∙_}
+use mathlib.Core.Logic.{⊎-elim}
 use mathlib.Core.Option.{none}
+use native.Mathlib.Omega.{arith}
+use borrow.Author.Needs.{needs}
+use lib.ListN.{length, getD, set}
 use Rattle.catalogue.proofs.PlacedSteps.{getD-within}
 use Rattle.seat.specs.Candidates.{nextCandidate}
 use Rattle.seat.specs.Step.{givenUp}
-use Rattle.seat.specs.Ways.{nextOf}
+use Rattle.seat.specs.Ways.{nextOf, keptBefore}
 use Rattle.seat.proofs.GoingBack.{goes-on, ends, goes-back}
-use borrow.Author.Needs.{needs}
+use Rattle.seat.proofs.Kept.{before-or-from, kept-before, kept-less}
 use Rattle.seat.proofs.search.given_up.Statement.{statement}
 use Rattle.seat.proofs.search.given_up.Tie as tie
 
 abbrev Inv-loop : tie.InvT-loop
-Inv-loop sizes choices i option depth v trial₀ j₀ given₀ trial j given =
+Inv-loop sizes choices i option depth placed j₀ j =
     (j ≤ depth)
-    × (length trial ≡ 16)
-    × (given < 255)
-    × ((f : ℕ) → f < j → getD trial f 255 < 255)
-    × (givenUp sizes choices i option j given trial ≡ givenUp sizes choices i option depth v trial₀)
+    × (givenUp sizes choices i option j (getD placed j 255) (keptBefore j placed)
+    ≡ givenUp sizes choices i option depth (getD placed depth 255) (keptBefore depth placed))
 
 abbrev μ-loop : tie.MeasureT-loop
-μ-loop sizes choices i option depth v trial₀ j₀ given₀ trial j given = j
+μ-loop sizes choices i option depth placed j₀ j = j
+
+-- up to the first depth there are options
+option-there : (c : tie.Start Inv-loop μ-loop) (j : ℕ) → j ≤ c .args .depth → getD (c .args .placed .now) j 255 < 255
+option-there c j l =
+    ⊎-elim (λ (before : j < c .args .depth). c .pre .1 .0 .options-before j before)
+    (λ (from : c .args .depth ≤ j). let same : j ≡ c .args .depth = omega arith in rw same (c .pre .1 .1))
+    (before-or-from j (c .args .depth))
+
+-- the code's reading is the definition's
+read-there : (c : tie.Start Inv-loop μ-loop) (j : ℕ) → j < 16 → getD (c .args .placed .now) j 0 ≡ getD (c .args .placed .now) j 255
+read-there c j l = getD-within (c .args .placed .now) j 0 255 (omega (arith, c .pre .1 .0 .sixteen))
 
 loop-holds : tie.Need-loop-holds Inv-loop μ-loop
-loop-holds c = search needs
+loop-holds c = (omega arith, refl)
 
-cast-next-candidate : tie.Need-cast-next-candidate Inv-loop μ-loop
-cast-next-candidate c = search needs
+cast-at : tie.Need-cast-at Inv-loop μ-loop
+cast-at c = search needs
+
+shared-slice-read-next-candidate : tie.Need-shared-slice-read-next-candidate Inv-loop μ-loop
+shared-slice-read-next-candidate c = omega (arith, c .before .before .before .before .before .pre .1 .0 .sixteen)
 
 next-candidate-requires : tie.Need-next-candidate-requires Inv-loop μ-loop
-next-candidate-requires c κs = search needs
+next-candidate-requires c κs =
+    let start = c .before .before .before .before .before in
+    let j = c .before .loop .j in
+    let within : j < 16 = omega arith in
+    (start .pre .0 .0, within, omega arith, rw (read-there start j within) (option-there start j (c .before .loop .inv .0)))
 
 enum-known-next : tie.Need-enum-known-next Inv-loop μ-loop
 enum-known-next c = search needs
 
-same-length : tie.Need-same-length Inv-loop μ-loop
-same-length c = search needs
-
 returns : tie.Need-returns Inv-loop μ-loop
 returns c =
-    let a = c .before .before .before .before .before .before .before .before .args in
-    let l = c .before .before .before .before .loop in
+    let start = c .before .before .before .before .before .before .before .before .before in
+    let a = start .args in
+    let l = c .before .before .before .before .before .loop in
     let found = sym (c .before .before .before .next-candidate .ensures) ∙ ap nextOf (c .before .next .given .1) in
-    (l .inv .1, sym (goes-on (a .sizes .now) (a .choices .now) (a .i) (a .option) (l .j) (l .given) (l .trial) _ found) ∙ l .inv .4)
+    let placed = getD (a .placed .now) (l .j) 255 in (
+      l .inv .0,
+      sym (goes-on (a .sizes .now) (a .choices .now) (a .i) (a .option) (l .j) placed (keptBefore (l .j) (a .placed .now)) _
+          (rw (read-there start (l .j) (omega arith)) at found)) ∙ l .inv .1,
+    )
 
 enum-told : tie.Need-enum-told Inv-loop μ-loop
 enum-told c = search needs
 
 -- where the code goes back, there is no next candidate
-none-left : (c : tie.After-enum-told Inv-loop μ-loop)
-    → nextCandidate (c .before .before .before .before .before .before .before .args .sizes .now) (c .before .before .before .before .before .before .before .args .choices .now)
-    (c .before .before .before .before .before .before .before .args .i) (c .before .before .before .before .before .before .before .args .option)
-    (c .before .before .before .loop .j) (c .before .before .before .loop .given)
+none-left : (c : tie.After-enum-told Inv-loop μ-loop) → let start = c .before .before .before .before .before .before .before .before in
+    let j = c .before .before .before .before .loop .j in
+    nextCandidate (start .args .sizes .now) (start .args .choices .now) (start .args .i) (start .args .option) j (getD (start .args .placed .now) j 255)
     ≡ none
-none-left c = sym (c .before .before .next-candidate .ensures) ∙ ap nextOf (c .enum-told .given .1)
-
-same-length-2 : tie.Need-same-length-2 Inv-loop μ-loop
-same-length-2 c = search needs
+none-left c =
+    let start = c .before .before .before .before .before .before .before .before in
+    rw (read-there start (c .before .before .before .before .loop .j) (omega arith)) at (sym (c .before .before .next-candidate .ensures) ∙ ap nextOf (c .enum-told .given .1))
 
 returns-2 : tie.Need-returns-2 Inv-loop μ-loop
 returns-2 c =
-    let a = c .before .before .before .before .before .before .before .before .args in
-    let l = c .before .before .before .before .loop in
-    (l .inv .1, sym (ends (a .sizes .now) (a .choices .now) (a .i) (a .option) (l .j) (l .given) (l .trial) (none-left (c .before)) (c .if1 .taken)) ∙ l .inv .4)
+    let a = c .before .before .before .before .before .before .before .before .before .args in
+    let l = c .before .before .before .before .before .loop in (
+      omega arith,
+      sym (ends (a .sizes .now) (a .choices .now) (a .i) (a .option) (l .j) _ (keptBefore (l .j) (a .placed .now)) (none-left (c .before)) (c .if1 .taken))
+          ∙ l .inv .1,
+    )
 
 sub-j : tie.Need-sub-j Inv-loop μ-loop
 sub-j c = search needs
-
-cast-at : tie.Need-cast-at Inv-loop μ-loop
-cast-at c = search needs
-
-slice-read-given : tie.Need-slice-read-given Inv-loop μ-loop
-slice-read-given c = search needs
-
-slice-write-trial : tie.Need-slice-write-trial Inv-loop μ-loop
-slice-write-trial c = search needs
 
 loop-less : tie.Need-loop-less Inv-loop μ-loop
 loop-less c = search needs
 
 loop-again : tie.Need-loop-again Inv-loop μ-loop
 loop-again c =
-    let a = c .before .before .before .before .before .before .before .before .before .args in
+    let start = c .before .before .before .before .before .before .before .before .before in
+    let a = start .args in
     let l = c .before .before .before .before .before .loop in
-    let before : l .j - 1 < length (l .trial) = omega arith in
-    let read = getD-within (l .trial) (l .j - 1) 0 255 before in
-    let back = goes-back (a .sizes .now) (a .choices .now) (a .i) (a .option) (l .j) (l .given) (l .trial) (l .j - 1) (none-left (c .before .before)) (omega arith) in (
-      omega arith,
-      rw length-set (l .inv .1),
-      rw read (l .inv .3 (l .j - 1) (omega arith)),
-      λ (f : ℕ) (h : f < l .j - 1). rw (getD-set-other (l .trial) (l .j - 1) f 255 255 (omega arith)) (l .inv .3 f (omega arith)),
-      rw read (sym back ∙ l .inv .4),
-    )
+    let placed = a .placed .now in
+    let sixteen = start .pre .1 .0 .sixteen in
+    let d : ℕ = l .j - 1 in
+    let e : l .j ≡ d + 1 = omega arith in
+    let back = goes-back (a .sizes .now) (a .choices .now) (a .i) (a .option) (l .j) (getD placed (l .j) 255) (keptBefore (l .j) placed) d (none-left (c .before)) e in
+    let kept : getD (keptBefore (l .j) placed) d 255 ≡ getD placed d 255 = kept-before placed sixteen (l .j) (omega arith) d (omega arith) in
+    let taken = kept-less placed sixteen (l .j) d e (omega arith) in
+    (omega arith, sym (rw (kept, taken) at back) ∙ l .inv .1)
 
 pub given-up-spec : {M : Type 1} → statement M
 given-up-spec =
@@ -104,17 +115,13 @@ given-up-spec =
     Inv-loop
     μ-loop
     loop-holds
-    cast-next-candidate
+    cast-at
+    shared-slice-read-next-candidate
     next-candidate-requires
     enum-known-next
-    same-length
     returns
     enum-told
-    same-length-2
     returns-2
     sub-j
-    cast-at
-    slice-read-given
-    slice-write-trial
     loop-less
     loop-again)

@@ -1,19 +1,13 @@
--- The state is that after the pair, and nothing is placed.
 use borrow.Author.Needs.{needs}
 use Rattle.seat.proofs.search.pair_ended.Statement.{statement}
 use Rattle.seat.proofs.search.pair_ended.Tie as tie
-
-empty-requires : tie.Need-empty-requires
-empty-requires c κs = search needs
+use mathlib.Core.Path.{refl}
 
 after-pair-requires : tie.Need-after-pair-requires
 after-pair-requires c κs = search needs
 
-same-length : tie.Need-same-length
-same-length c = search needs
-
 returns : tie.Need-returns
-returns c = (c .after-pair .ensures, rw (c .before .before .before .before .before .before .before .before .pre .1) at (c .before .before .before .empty .ensures))
+returns c = rw (c .after-pair .ensures) refl
 
 pub pair-ended-spec : {M : Type 1} → statement M
-pair-ended-spec = tie.close (tie.spec empty-requires after-pair-requires same-length returns)
+pair-ended-spec = tie.close (tie.spec after-pair-requires returns)
