@@ -1,13 +1,13 @@
 -- A part of the board lent to one seat is that seat's share, and when it is back with other bytes in it, the board is the old
 -- one with those bytes put over the share.
 use Prim.Native.Nat.{ℕ, _+_, _-_, _*_, _<_}
-use mathlib.Core.Path.{_≡_}
+use mathlib.Core.Path.{_≡_, refl, _∙_}
 use mathlib.Core.List.{List}
+use native.Mathlib.Omega.{arith}
 use lib.ListN.{length}
-use borrow.Rule.Slice.PartMut.{midOf, putMid}
+use borrow.Rule.Slice.PartMut.{midOf, putMid, post-is}
 use Rattle.seat.specs.Clinic.{put}
 use Rattle.desk.specs.Room.{shareAt}
-use Rattle.desk.proofs.Parts as parts
 use Rattle.desk.proofs.WithClinic.{share-length}
 
 abbrev pub shareLent : List ℕ → ℕ → List ℕ
@@ -19,10 +19,13 @@ shareBack board c share = putMid (c * 4096) (c * 4096 + 4096 - c * 4096) board s
 module _ (board : List ℕ) (c : ℕ) where
   pub lent-is : shareLent board c ≡ shareAt board c
   unfolding shareAt
-  lent-is = parts.lent-part 4096 board c
+  lent-is =
+      let bytes : c * 4096 + 4096 - c * 4096 ≡ 4096 = omega arith in
+      rw bytes
 
   pub lent-length : length board ≡ 32768 → c < 8 → length (shareLent board c) ≡ 4096
   lent-length whole l = rw lent-is (share-length board whole c l)
 
   pub back-is : (share : List ℕ) → length share ≡ 4096 → shareBack board c share ≡ put board (c * 4096) share
-  back-is = parts.part-back 4096 board c
+  unfolding put
+  back-is share full = rw (post-is (c * 4096) (c * 4096 + 4096) board (omega arith), full)

@@ -7,13 +7,8 @@
 --   TurnsAnswered: the turns made are the steps given, and all that were asked for unless no seat is at work
 --   ChecksPassed: in a sound room a call's refusal speaks of the named seat alone
 --   Settled: of each call any two outcomes that its contract allows are equal
-pub mod Filled
-pub mod Parts
 pub mod WithClinic
 pub mod LentShare
-pub mod Eight
-pub mod OwnPart
-pub mod LaidOut
 pub mod Served
 pub mod Marks
 pub mod Sound
@@ -33,7 +28,6 @@ pub mod TurnsMade
 pub mod MadeTurns
 pub mod FirstAtWork
 pub mod Turning
-pub mod TurnsLaid
 pub mod StepsGiven
 pub mod AnsweredAlike
 pub mod Replayed

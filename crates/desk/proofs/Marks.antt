@@ -7,11 +7,10 @@ use mathlib.Core.List.{List, [], _∷_}
 use mathlib.Core.Option.{Option, none, some}
 use native.Mathlib.Omega.{arith}
 use borrow.Author.Tests.{eqb-true, ne-eqb, not-true}
-use lib.ListN.{length, getD, set}
+use lib.ListN.{length, set}
 use lib.Dec.{eqb}
 use lib.Bits.{bitAnd, bitOr}
 use lib.Count.{trailingZeros}
-use Rattle.seat.specs.Bits.{hasBit}
 use Rattle.seat.specs.Fit.{everyBelow}
 use Rattle.seat.proofs.Fits.{every-below}
 use Rattle.desk.specs.Answers.{trueFrom}

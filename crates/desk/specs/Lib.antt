@@ -1,4 +1,4 @@
--- What a reader of this crate must believe, lowest first; `Layout` and `Marks` are for the code alone.
+-- What a reader of this crate must believe, lowest first; `Marks` is for the code alone.
 pub mod Room
 pub mod Fit
 pub mod Call
@@ -7,5 +7,4 @@ pub mod Refusal
 pub mod Perform
 pub mod Run
 pub mod Answers
-pub mod Layout
 pub mod Marks

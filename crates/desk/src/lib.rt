@@ -12,7 +12,6 @@
 mod answers;
 mod calls;
 mod checks;
-mod layout;
 mod reading;
 mod ring;
 

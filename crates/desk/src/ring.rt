@@ -3,22 +3,17 @@ use crate::Desk;
 use crate::answers::Turned;
 use crate::checks::is_at_work;
 use crate::checks::turns_number;
-use crate::layout::gathered;
-use crate::layout::lay_out;
-use crate::layout::states_of;
 use seat::Seat;
-use seat::State;
 ghost use mathlib.Core.Path.{_≡_};
 ghost use mathlib.Core.Bool.{true};
 ghost use mathlib.Core.List.{map};
 ghost use Prim.Native.Nat.{_<_};
 ghost use lib.ListN.{length, set};
+ghost use Rattle.catalogue.specs.Catalogue.{catalogueOf};
 ghost use Rattle.catalogue.specs.Fault.{faultOf};
-ghost use Rattle.catalogue.specs.Starts.{AllStarts};
 ghost use Rattle.seat.specs.declared.Seat.{Seat};
-ghost use Rattle.seat.specs.Clinic.{recordOf, clinicOf};
-ghost use Rattle.seat.specs.Fit.{seatFits};
-ghost use Rattle.seat.specs.Step.{step};
+ghost use Rattle.seat.specs.Clinic.{clinicOf};
+ghost use Rattle.seat.specs.Ways.{StepNeeds, Stepped};
 ghost use Rattle.desk.specs.Call.{turns};
 ghost use Rattle.desk.specs.Answers.{TurnsTo, foundOf, trueFrom};
 ghost use Rattle.desk.specs.Fit.{deskFits};
@@ -48,51 +43,37 @@ pub fn turns(desk: Desk, board: &mut [u8], sizes: &[u8], rules: &[u16], w: u16) 
     make_turns(desk, board, sizes, rules, w)
 }
 
-// On a board and with a catalogue and a desk that passed the checks. The records are laid out once for all turns of the
-// call, so that a step changes its seat's masks and trial where they stand.
+// On a board and with a catalogue and a desk that passed the checks.
 fn make_turns(desk: Desk, board: &mut [u8], sizes: &[u8], rules: &[u16], w: u16) -> Turned
-    requires { ⌜ (length (now board) ≡ 32768) × (faultOf (record { sizes = now sizes; list = now rules }) ≡ 0) ⌝ }
-    requires { ⌜ deskFits (record { sizes = now sizes; list = now rules }) desk ≡ true ⌝ }
-    ensures { λ r. ⌜ TurnsTo (done (record { sizes = now (sizes .entry); list = now (rules .entry) }) (turns w) (record { desk = desk; board = now (board .entry) })) r (now (board .exit)) ⌝ }
+    requires { ⌜ (length (now board) ≡ 32768) × (faultOf (catalogueOf (now sizes) (now rules)) ≡ 0) ⌝ }
+    requires { ⌜ deskFits (catalogueOf (now sizes) (now rules)) desk ≡ true ⌝ }
+    ensures { λ r. ⌜ TurnsTo
+        (done (catalogueOf (now (sizes .entry)) (now (rules .entry))) (turns w) (roomOf desk (now (board .entry))))
+        r (now (board .exit)) ⌝ }
 {
     let mut places = [0u16; 1024];
     let mut counts = [0u8; 16];
     catalogue::starts_of(rules, &mut places, &mut counts);
-    let seats = desk.seats;
-    let mut choices = [0u8; 128];
-    let mut masks = [0u16; 128];
-    let mut trials = [0u8; 128];
-    lay_out(seats, &mut choices, &mut masks, &mut trials);
-    let mut states = states_of(seats);
-    let mut working = seats_at_work(seats);
+    let edge = seat::edge();
+    let mut seats = desk.seats;
     let mut next = desk.next;
+    let mut working = seats_at_work(seats);
     let mut made = 0u16;
     while made < w {
         let Found::At(c) = first_at_work(working, next as usize) else {
             break;
         };
-        let own = c * 16;
         let from = c * 4096;
-        let state = stepped(
-            states[c],
-            &choices[own..own + 16],
-            &mut masks[own..own + 16],
-            &mut trials[own..own + 16],
-            &mut board[from..from + 4096],
-            sizes,
-            rules,
-            &places,
-            &counts,
-        );
-        states[c] = state;
+        let share = &mut board[from..from + 4096];
+        let seat = stepped(seats[c], share, sizes, rules, &places, &counts, &edge);
+        seats[c] = seat;
         next = ((c + 1) % 8) as u8;
         made += 1;
-        let State::AtWork(_) = state else {
-            working = with_mark(working, c, false);
+        if is_at_work(seat) {
             continue;
-        };
+        }
+        working = with_mark(working, c, false);
     }
-    let seats = gathered(states, &choices, &masks, &trials);
     turned(made, working, Desk { seats, next })
 }
 
@@ -110,37 +91,23 @@ fn turned(made: u16, marks: u8, desk: Desk) -> Turned
     }
 }
 
-// One step for the seat that is served: its state is lent for the step, and handed back as the step left it; its masks and
-// trial are changed where they stand.
+// One step for the seat that is served: its record is lent for the step, and handed back as the step left it.
 fn stepped(
-    mut state: State,
-    choices: &[u8],
-    masks: &mut [u16],
-    trial: &mut [u8],
+    mut seat: Seat,
     share: &mut [u8],
     sizes: &[u8],
     rules: &[u16],
     places: &[u16],
     counts: &[u8],
-) -> State
-    requires { ⌜ faultOf (record { sizes = now sizes; list = now rules }) ≡ 0 ⌝ }
-    requires { ⌜ seatFits (record { sizes = now sizes; list = now rules }) (recordOf state (now choices) (now masks) (now trial)) ≡ true ⌝ }
-    requires { ⌜ (length (now choices) ≡ 16) × (length (now masks) ≡ 16) × (length (now trial) ≡ 16) × (length (now share) ≡ 4096) ⌝ }
-    requires { ⌜ AllStarts (now rules) (now places) (now counts) ⌝ }
-    ensures { λ r. ⌜ clinicOf r (now (choices .entry)) (now (masks .exit)) (now (trial .exit)) (now (share .exit)) ≡ step (record { sizes = now (sizes .entry); list = now (rules .entry) }) (clinicOf state (now (choices .entry)) (now (masks .entry)) (now (trial .entry)) (now (share .entry))) ⌝ }
+    edge: &[u8],
+) -> Seat
+    requires { ⌜ StepNeeds (catalogueOf (now sizes) (now rules)) seat
+        (now share) (now places) (now counts) (now edge) ⌝ }
+    ensures { λ r. ⌜ Stepped (catalogueOf (now (sizes .entry)) (now (rules .entry)))
+        (clinicOf seat (now (share .entry))) (clinicOf r (now (share .exit))) ⌝ }
 {
-    seat::step_in(
-        &mut state,
-        choices,
-        masks,
-        trial,
-        share,
-        sizes,
-        rules,
-        places,
-        counts,
-    );
-    state
+    seat::step_in(&mut seat, share, sizes, rules, places, counts, edge);
+    seat
 }
 
 // Which of the eight seats are at work: the bits of a byte, that of seat 0 lowest.
