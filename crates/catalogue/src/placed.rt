@@ -89,7 +89,8 @@ fn option_at(placed: &[u8], feature: usize) -> u16
 fn some_row(rows: &[u16], features: &[u16], placed: &[u8]) -> bool
     requires { ⌜ (1 ≤ length (now features)) × WholeRows (length (now features)) (now rows) ⌝ }
     requires { ⌜ EachBelow (length (now placed)) (now features) ⌝ }
-    ensures { λ r. ⌜ RowTest (length (now (features .entry))) (now (rows .entry)) (optionsAt (now (placed .entry)) (now (features .entry))) r ⌝ }
+    ensures { λ r. ⌜ RowTest (length (now (features .entry))) (now (rows .entry))
+        (optionsAt (now (placed .entry)) (now (features .entry))) r ⌝ }
 {
     let first = option_at(placed, wide(features[0]));
     let mut place = 0;
@@ -105,7 +106,8 @@ fn some_row(rows: &[u16], features: &[u16], placed: &[u8]) -> bool
 
 // The option at the first feature is looked up once for all rows, since most rows differ there already.
 fn row_matches(row: &[u16], first: u16, features: &[u16], placed: &[u8]) -> bool
-    requires { ⌜ (length (now row) ≡ length (now features)) × (1 ≤ length (now features)) × (first ≡ optionAt (now placed) (getD (now features) 0 0)) ⌝ }
+    requires { ⌜ (length (now row) ≡ length (now features)) × (1 ≤ length (now features))
+        × (first ≡ optionAt (now placed) (getD (now features) 0 0)) ⌝ }
     requires { ⌜ EachBelow (length (now placed)) (now features) ⌝ }
     ensures { λ r. ⌜ r ≡ matches (now (row .entry)) (optionsAt (now (placed .entry)) (now (features .entry))) ⌝ }
 {

@@ -1,5 +1,6 @@
 -- A contract leaves nothing open: any two outcomes that the contract of a call allows for the same input are equal, since each
--- contract is one equation of the whole outcome, and answer, desk and board can be read off the outcome.
+-- contract is one equation of the whole outcome, and answer, desk and board can be read off the outcome. Of example, which
+-- answers a part of the board, it is two: the bytes, and where they stand.
 use Prim.Native.Nat.{ℕ}
 use mathlib.Core.Path.{_≡_, sym, ap, _∙_}
 use mathlib.Core.List.{List}
@@ -9,7 +10,7 @@ use Rattle.desk.specs.declared.answers.Left.{Left}
 use Rattle.desk.specs.declared.answers.Turned.{Turned}
 use Rattle.desk.specs.Room.{Room}
 use Rattle.desk.specs.Call.{enter, leave, choose, relax, options, example, turns}
-use Rattle.desk.specs.Answers.{ChangesTo, ReadsAs, TurnsTo}
+use Rattle.desk.specs.Answers.{ChangesTo, ReadsAs, TurnsTo, exampleBegins}
 use Rattle.desk.specs.Perform.{Outcome, perform, opening}
 
 -- of a result that a contract speaks of alone, and of a result with the board at exit
@@ -71,9 +72,13 @@ module _ (catalogue : Catalogue) (room : Room) (c : ℕ) where
       pub choose-settled : SettledWithBoard (ChangesTo (perform catalogue (choose c i a) room))
       choose-settled = one-change (perform catalogue (choose c i a) room)
 
-      -- the bytes that example hands out, and the number
+      -- the bytes that example hands out, where they stand, and the number
       pub example-settled : Settled (λ (r : List ℕ). r ≡ perform catalogue (example c i a) room .answer .bytes)
       example-settled = one-value (perform catalogue (example c i a) room .answer .bytes)
+
+      pub example-place-settled : (board : ℕ × ℕ)
+          → Settled (λ (r : ℕ × ℕ). r ≡ exampleBegins board (perform catalogue (example c i a) room .answer .number) c i a)
+      example-place-settled board = one-value (exampleBegins board (perform catalogue (example c i a) room .answer .number) c i a)
 
       pub example-number-settled : Settled (λ (r : ℕ). r ≡ perform catalogue (example c i a) room .answer .number)
       example-number-settled = one-value (perform catalogue (example c i a) room .answer .number)

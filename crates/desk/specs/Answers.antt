@@ -1,18 +1,21 @@
 -- The answers of the code as the definitions have them.
-use Prim.Native.Nat.{ℕ, zero, suc}
+use Prim.Native.Nat.{ℕ, zero, suc, _+_, _*_}
 use mathlib.Core.Path.{_≡_}
 use mathlib.Core.Bool.{Bool, false, cond}
 use mathlib.Core.List.{List, []}
 use mathlib.Core.Option.{Option, none, some}
-use lib.ListN.{getD}
+use lib.ListN.{length, getD}
+use Rattle.catalogue.specs.Catalogue.{catalogueOf}
+use Rattle.desk.specs.declared.Desk.{Desk}
 use Rattle.desk.specs.declared.answers.Changed.{Changed}
 use Rattle.desk.specs.declared.answers.Left.{Left}
 use Rattle.desk.specs.declared.answers.Turned.{Turned}
 use Rattle.desk.specs.declared.ring.Found.{Found}
 use Rattle.desk.specs.declared.ring.Found.the-variants.{At, Nobody}
-use Rattle.desk.specs.Room.{Room}
-use Rattle.desk.specs.Call.{Answer, refused}
+use Rattle.desk.specs.Room.{Room, roomOf}
+use Rattle.desk.specs.Call.{Call, Answer, refused}
 use Rattle.desk.specs.Turn.{seatAfter}
+use Rattle.desk.specs.Refusal.{refusal}
 use Rattle.desk.specs.Perform.{Outcome}
 
 abbrev pub leftAnswer : Left → Answer
@@ -37,6 +40,18 @@ ReadsAs outcome room left = record { answer = leftAnswer left; room = room } ≡
 
 abbrev pub TurnsTo : Outcome → Turned → List ℕ → Type 0
 TurnsTo outcome turned board = turnedOutcome turned board ≡ outcome
+
+-- a number is the call's refusal number, on every board of so many bytes
+abbrev pub Refuses : List ℕ → List ℕ → Desk → ℕ → Call → ℕ → Type 0
+Refuses sizes list desk bytes call number =
+    (board : List ℕ) → length board ≡ bytes → number ≡ refusal (catalogueOf sizes list) call (roomOf desk board)
+
+-- Where in memory, by block and place in it, the part of the board that example answers begins, for a board that begins at
+-- a given place, and by the refusal number: in seat c's share, at feature i and option a. A refused call's part, of no
+-- bytes, is at the board's beginning.
+abbrev pub exampleBegins : ℕ × ℕ → ℕ → ℕ → ℕ → ℕ → ℕ × ℕ
+exampleBegins board zero c i a = (board .0, (c * 4096 + i * 256 + a * 16) + board .1)
+exampleBegins board (suc number) c i a = board
 
 abbrev pub foundOf : Found → Option ℕ
 foundOf (At c) = some c

@@ -3,11 +3,12 @@ use Prim.Native.Nat.{ℕ, zero, suc}
 use mathlib.Core.Bool.{Bool, false}
 use mathlib.Core.List.{List, []}
 use lib.ListN.{getD, set}
-use Rattle.catalogue.specs.Catalogue.{Catalogue}
+use Rattle.catalogue.specs.Catalogue.{Catalogue, catalogueOf}
 use Rattle.seat.specs.Bits.{bitCount}
 use Rattle.seat.specs.Clinic.{Clinic, closedClinic, exampleIn}
 use Rattle.seat.specs.Step.{posted}
-use Rattle.desk.specs.Room.{Room, seatAt, shareAt, withClinic, freshDesk, emptyBoard}
+use Rattle.desk.specs.declared.Desk.{Desk}
+use Rattle.desk.specs.Room.{Room, roomOf, seatAt, shareAt, withClinic, freshDesk, emptyBoard}
 use Rattle.desk.specs.Call.{Call, enter, leave, choose, relax, options, example, turns, Answer, refused, plain}
 use Rattle.desk.specs.Turn.{served, isSome, afterTurns, turnsMade}
 use Rattle.desk.specs.Refusal.{openRefusal, refusal}
@@ -57,6 +58,10 @@ unless (suc number) room outcome = record { answer = refused (suc number); room 
 
 unfoldable pub perform : Catalogue → Call → Room → Outcome
 perform catalogue call room = unless (refusal catalogue call room) room (done catalogue call room)
+
+-- the same, of what a call is lent: sizes and list, desk and board
+abbrev pub performed : List ℕ → List ℕ → Desk → List ℕ → Call → Outcome
+performed sizes list desk board call = perform (catalogueOf sizes list) call (roomOf desk board)
 
 -- Open takes no desk: a refused open hands back a fresh one, and the board as it came.
 unfoldable pub opening : Catalogue → List ℕ → Outcome

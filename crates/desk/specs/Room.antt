@@ -11,6 +11,9 @@ pub record Room : Type 0 where
   pub desk : Desk
   pub board : List ℕ
 
+abbrev pub roomOf : Desk → List ℕ → Room
+roomOf desk board = record { desk = desk; board = board }
+
 -- seats are numbered 0 to 7; what is read at another number is of no account
 abbrev pub seatAt : Desk → ℕ → Seat
 seatAt desk c = getD (desk .seats) c (record { state = Closed; choices = []; masks = []; trial = [] })

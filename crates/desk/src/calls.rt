@@ -10,14 +10,16 @@ use seat::Seat;
 ghost use mathlib.Core.Path.{_≡_};
 ghost use Prim.Native.Nat.{_<_};
 ghost use lib.ListN.{set};
+ghost use Rattle.catalogue.specs.Catalogue.{catalogueOf};
 ghost use Rattle.desk.specs.Call.{enter, leave, choose, relax};
 ghost use Rattle.desk.specs.Answers.{ChangesTo};
 ghost use Rattle.desk.specs.Room.{freshDesk};
-ghost use Rattle.desk.specs.Perform.{perform, opening};
+ghost use Rattle.desk.specs.Perform.{performed, opening};
 
 // The board filled with 255, all seats closed, next seat 0.
 pub fn open(board: &mut [u8], sizes: &[u8], rules: &[u16]) -> Changed
-    ensures { λ r. ⌜ ChangesTo (opening (record { sizes = now (sizes .entry); list = now (rules .entry) }) (now (board .entry))) r (now (board .exit)) ⌝ }
+    ensures { λ r. ⌜ ChangesTo
+        (opening (catalogueOf (now (sizes .entry)) (now (rules .entry))) (now (board .entry))) r (now (board .exit)) ⌝ }
 {
     let number = open_number(board.len(), sizes, rules);
     if number == 0 {
@@ -31,7 +33,9 @@ pub fn open(board: &mut [u8], sizes: &[u8], rules: &[u16]) -> Changed
 
 // The closed seat gets a job.
 pub fn enter(desk: Desk, board: &mut [u8], sizes: &[u8], rules: &[u16], c: usize) -> Changed
-    ensures { λ r. ⌜ ChangesTo (perform (record { sizes = now (sizes .entry); list = now (rules .entry) }) (enter c) (record { desk = desk; board = now (board .entry) })) r (now (board .exit)) ⌝ }
+    ensures { λ r. ⌜ ChangesTo
+        (performed (now (sizes .entry)) (now (rules .entry)) desk (now (board .entry)) (enter c))
+        r (now (board .exit)) ⌝ }
 {
     let number = enter_number(desk, board.len(), sizes, rules, c);
     if number != 0 {
@@ -49,7 +53,9 @@ pub fn enter(desk: Desk, board: &mut [u8], sizes: &[u8], rules: &[u16], c: usize
 
 // An open seat, ready or at work, becomes closed.
 pub fn leave(desk: Desk, board: &mut [u8], sizes: &[u8], rules: &[u16], c: usize) -> Changed
-    ensures { λ r. ⌜ ChangesTo (perform (record { sizes = now (sizes .entry); list = now (rules .entry) }) (leave c) (record { desk = desk; board = now (board .entry) })) r (now (board .exit)) ⌝ }
+    ensures { λ r. ⌜ ChangesTo
+        (performed (now (sizes .entry)) (now (rules .entry)) desk (now (board .entry)) (leave c))
+        r (now (board .exit)) ⌝ }
 {
     let number = leave_number(desk, board.len(), sizes, rules, c);
     if number != 0 {
@@ -74,7 +80,9 @@ pub fn choose(
     i: usize,
     a: usize,
 ) -> Changed
-    ensures { λ r. ⌜ ChangesTo (perform (record { sizes = now (sizes .entry); list = now (rules .entry) }) (choose c i a) (record { desk = desk; board = now (board .entry) })) r (now (board .exit)) ⌝ }
+    ensures { λ r. ⌜ ChangesTo
+        (performed (now (sizes .entry)) (now (rules .entry)) desk (now (board .entry)) (choose c i a))
+        r (now (board .exit)) ⌝ }
 {
     let number = choose_number(desk, board.len(), sizes, rules, c, i, a);
     if number != 0 {
@@ -100,7 +108,9 @@ pub fn relax(
     c: usize,
     i: usize,
 ) -> Changed
-    ensures { λ r. ⌜ ChangesTo (perform (record { sizes = now (sizes .entry); list = now (rules .entry) }) (relax c i) (record { desk = desk; board = now (board .entry) })) r (now (board .exit)) ⌝ }
+    ensures { λ r. ⌜ ChangesTo
+        (performed (now (sizes .entry)) (now (rules .entry)) desk (now (board .entry)) (relax c i))
+        r (now (board .exit)) ⌝ }
 {
     let number = relax_number(desk, board.len(), sizes, rules, c, i);
     if number != 0 {

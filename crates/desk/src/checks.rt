@@ -6,16 +6,20 @@ ghost use mathlib.Core.Path.{_≡_};
 ghost use mathlib.Core.List.{List};
 ghost use Prim.Native.Nat.{ℕ, _<_};
 ghost use lib.ListN.{length};
+ghost use Rattle.catalogue.specs.Catalogue.{catalogueOf};
 ghost use Rattle.catalogue.specs.Fault.{faultOf};
 ghost use Rattle.seat.specs.Bits.{hasBit};
+ghost use Rattle.desk.specs.Answers.{Refuses};
 ghost use Rattle.desk.specs.Call.{enter, leave, choose, relax, options, example, turns};
 ghost use Rattle.desk.specs.Fit.{deskFits};
 ghost use Rattle.desk.specs.Refusal.{openRefusal, refusal, hasChoice};
+ghost use Rattle.desk.specs.Room.{roomOf};
 ghost use Rattle.desk.specs.Turn.{isClosed, isAtWork};
 
 // 1 and 10 to 18: what open checks.
 pub fn open_number(board_length: usize, sizes: &[u8], rules: &[u16]) -> u8
-    ensures { λ r. ⌜ ((board : List ℕ) → length board ≡ «board_length» → r ≡ openRefusal (record { sizes = now (sizes .entry); list = now (rules .entry) }) board) ⌝ }
+    ensures { λ r. ⌜ ((board : List ℕ) → length board ≡ «board_length»
+        → r ≡ openRefusal (catalogueOf (now (sizes .entry)) (now (rules .entry))) board) ⌝ }
 {
     if board_length != 32768 {
         return 1;
@@ -25,7 +29,8 @@ pub fn open_number(board_length: usize, sizes: &[u8], rules: &[u16]) -> u8
 
 // 1 to 20: what every other call checks first, and turns alone.
 pub fn turns_number(desk: Desk, board_length: usize, sizes: &[u8], rules: &[u16]) -> u8
-    ensures { λ r. ⌜ ((board : List ℕ) → length board ≡ «board_length» → (w : ℕ) → r ≡ refusal (record { sizes = now (sizes .entry); list = now (rules .entry) }) (turns w) (record { desk = desk; board = board })) ⌝ }
+    ensures { λ r. ⌜ ((board : List ℕ) → length board ≡ «board_length» → (w : ℕ)
+        → r ≡ refusal (catalogueOf (now (sizes .entry)) (now (rules .entry))) (turns w) (roomOf desk board)) ⌝ }
 {
     let number = open_number(board_length, sizes, rules);
     if number != 0 {
@@ -38,7 +43,7 @@ pub fn turns_number(desk: Desk, board_length: usize, sizes: &[u8], rules: &[u16]
 }
 
 pub fn enter_number(desk: Desk, board_length: usize, sizes: &[u8], rules: &[u16], c: usize) -> u8
-    ensures { λ r. ⌜ ((board : List ℕ) → length board ≡ «board_length» → r ≡ refusal (record { sizes = now (sizes .entry); list = now (rules .entry) }) (enter c) (record { desk = desk; board = board })) ⌝ }
+    ensures { λ r. ⌜ Refuses (now (sizes .entry)) (now (rules .entry)) desk «board_length» (enter c) r ⌝ }
 {
     let number = turns_number(desk, board_length, sizes, rules);
     if number != 0 {
@@ -55,7 +60,7 @@ pub fn enter_number(desk: Desk, board_length: usize, sizes: &[u8], rules: &[u16]
 }
 
 pub fn leave_number(desk: Desk, board_length: usize, sizes: &[u8], rules: &[u16], c: usize) -> u8
-    ensures { λ r. ⌜ ((board : List ℕ) → length board ≡ «board_length» → r ≡ refusal (record { sizes = now (sizes .entry); list = now (rules .entry) }) (leave c) (record { desk = desk; board = board })) ⌝ }
+    ensures { λ r. ⌜ Refuses (now (sizes .entry)) (now (rules .entry)) desk «board_length» (leave c) r ⌝ }
 {
     let number = turns_number(desk, board_length, sizes, rules);
     if number != 0 {
@@ -80,7 +85,7 @@ pub fn options_number(
     c: usize,
     i: usize,
 ) -> u8
-    ensures { λ r. ⌜ ((board : List ℕ) → length board ≡ «board_length» → r ≡ refusal (record { sizes = now (sizes .entry); list = now (rules .entry) }) (options c i) (record { desk = desk; board = board })) ⌝ }
+    ensures { λ r. ⌜ Refuses (now (sizes .entry)) (now (rules .entry)) desk «board_length» (options c i) r ⌝ }
 {
     let number = leave_number(desk, board_length, sizes, rules, c);
     if number != 0 {
@@ -105,7 +110,7 @@ pub fn choose_number(
     i: usize,
     a: usize,
 ) -> u8
-    ensures { λ r. ⌜ ((board : List ℕ) → length board ≡ «board_length» → r ≡ refusal (record { sizes = now (sizes .entry); list = now (rules .entry) }) (choose c i a) (record { desk = desk; board = board })) ⌝ }
+    ensures { λ r. ⌜ Refuses (now (sizes .entry)) (now (rules .entry)) desk «board_length» (choose c i a) r ⌝ }
 {
     let number = options_number(desk, board_length, sizes, rules, c, i);
     if number != 0 {
@@ -134,7 +139,7 @@ pub fn relax_number(
     c: usize,
     i: usize,
 ) -> u8
-    ensures { λ r. ⌜ ((board : List ℕ) → length board ≡ «board_length» → r ≡ refusal (record { sizes = now (sizes .entry); list = now (rules .entry) }) (relax c i) (record { desk = desk; board = board })) ⌝ }
+    ensures { λ r. ⌜ Refuses (now (sizes .entry)) (now (rules .entry)) desk «board_length» (relax c i) r ⌝ }
 {
     let number = options_number(desk, board_length, sizes, rules, c, i);
     if number != 0 {
@@ -156,7 +161,7 @@ pub fn example_refusal(
     i: usize,
     a: usize,
 ) -> u8
-    ensures { λ r. ⌜ ((board : List ℕ) → length board ≡ «board_length» → r ≡ refusal (record { sizes = now (sizes .entry); list = now (rules .entry) }) (example c i a) (record { desk = desk; board = board })) ⌝ }
+    ensures { λ r. ⌜ Refuses (now (sizes .entry)) (now (rules .entry)) desk «board_length» (example c i a) r ⌝ }
 {
     let number = options_number(desk, board_length, sizes, rules, c, i);
     if number != 0 {
@@ -176,8 +181,8 @@ pub fn example_refusal(
 
 // Number 20: the desk fits a catalogue without a fault.
 fn desk_fits(desk: Desk, sizes: &[u8], rules: &[u16]) -> bool
-    requires { ⌜ faultOf (record { sizes = now sizes; list = now rules }) ≡ 0 ⌝ }
-    ensures { λ r. ⌜ r ≡ deskFits (record { sizes = now (sizes .entry); list = now (rules .entry) }) desk ⌝ }
+    requires { ⌜ faultOf (catalogueOf (now sizes) (now rules)) ≡ 0 ⌝ }
+    ensures { λ r. ⌜ r ≡ deskFits (catalogueOf (now (sizes .entry)) (now (rules .entry))) desk ⌝ }
 {
     if 7 < desk.next {
         return false;

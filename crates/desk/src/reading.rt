@@ -5,12 +5,15 @@ use crate::checks::example_refusal;
 use crate::checks::options_number;
 ghost use mathlib.Core.Path.{_≡_};
 ghost use Rattle.desk.specs.Call.{options, example};
-ghost use Rattle.desk.specs.Answers.{ReadsAs};
-ghost use Rattle.desk.specs.Perform.{perform};
+ghost use Rattle.desk.specs.Answers.{ReadsAs, exampleBegins};
+ghost use Rattle.desk.specs.Perform.{performed};
+ghost use Rattle.desk.specs.Room.{roomOf};
 
 // The mask of one feature and how many bits are set in it.
 pub fn options(desk: Desk, board: &[u8], sizes: &[u8], rules: &[u16], c: usize, i: usize) -> Left
-    ensures { λ r. ⌜ ReadsAs (perform (record { sizes = now (sizes .entry); list = now (rules .entry) }) (options c i) (record { desk = desk; board = now (board .entry) })) (record { desk = desk; board = now (board .entry) }) r ⌝ }
+    ensures { λ r. ⌜ ReadsAs
+        (performed (now (sizes .entry)) (now (rules .entry)) desk (now (board .entry)) (options c i))
+        (roomOf desk (now (board .entry))) r ⌝ }
 {
     let number = options_number(desk, board.len(), sizes, rules, c, i);
     if number != 0 {
@@ -41,7 +44,12 @@ pub fn example<'a>(
     i: usize,
     a: usize,
 ) -> &'a [u8]
-    ensures { λ r. ⌜ now r ≡ perform (record { sizes = now (sizes .entry); list = now (rules .entry) }) (example c i a) (record { desk = desk; board = now (board .entry) }) .answer .bytes ⌝ }
+    ensures bytes { λ r. ⌜ now r
+        ≡ performed (now (sizes .entry)) (now (rules .entry)) desk (now (board .entry)) (example c i a)
+        .answer .bytes ⌝ }
+    ensures place { λ r. ⌜ r .ptr ≡ exampleBegins (board .entry .ptr)
+        (performed (now (sizes .entry)) (now (rules .entry)) desk (now (board .entry)) (example c i a) .answer .number)
+        c i a ⌝ }
 {
     let number = example_refusal(desk, board.len(), sizes, rules, c, i, a);
     if number != 0 {
@@ -62,7 +70,9 @@ pub fn example_number(
     i: usize,
     a: usize,
 ) -> u8
-    ensures { λ r. ⌜ r ≡ perform (record { sizes = now (sizes .entry); list = now (rules .entry) }) (example c i a) (record { desk = desk; board = now (board .entry) }) .answer .number ⌝ }
+    ensures { λ r. ⌜ r
+        ≡ performed (now (sizes .entry)) (now (rules .entry)) desk (now (board .entry)) (example c i a)
+        .answer .number ⌝ }
 {
     example_refusal(desk, board.len(), sizes, rules, c, i, a)
 }

@@ -12,7 +12,8 @@ ghost use mathlib.Core.Path.{_≡_};
 ghost use Rattle.host.specs.Door.{deskBack};
 
 pub fn changed_back(given: HostDesk, changed: Changed) -> HostChanged
-    ensures { λ r. ⌜ r ≡ record { number = changed .number; desk = deskBack (changed .number) given (changed .desk) } ⌝ }
+    ensures { λ r. ⌜ r
+        ≡ record { number = changed .number; desk = deskBack (changed .number) given (changed .desk) } ⌝ }
 {
     let number = changed.number;
     let desk = changed.desk;
@@ -33,7 +34,12 @@ pub fn left_back(left: Left) -> HostLeft
 }
 
 pub fn turned_back(given: HostDesk, turned: Turned) -> HostTurned
-    ensures { λ r. ⌜ r ≡ record { number = turned .number; made = turned .made; working = turned .working; desk = deskBack (turned .number) given (turned .desk) } ⌝ }
+    ensures { λ r. ⌜ r ≡ record {
+      number = turned .number;
+      made = turned .made;
+      working = turned .working;
+      desk = deskBack (turned .number) given (turned .desk);
+    } ⌝ }
 {
     let number = turned.number;
     let desk = turned.desk;

@@ -17,12 +17,14 @@ pub use records::HostSeat;
 pub use records::HostTurned;
 ghost use mathlib.Core.Path.{_≡_};
 ghost use lib.ListN.{take, drop};
+ghost use Rattle.catalogue.specs.Catalogue.{catalogueOf};
 ghost use Rattle.desk.specs.Call.{enter, leave, choose, relax, options, example, turns};
 ghost use Rattle.host.specs.Door.{inside, throughDoor, openedDoor, hostChangedOutcome, hostLeftAnswer, hostTurnedOutcome, exampleStands};
 
 #[no_mangle]
 pub extern "C" fn nethazel_open(board: &mut [u8], sizes: &[u8], rules: &[u16]) -> HostChanged
-    ensures { λ r. ⌜ hostChangedOutcome r (now (board .exit)) ≡ openedDoor (record { sizes = now (sizes .entry); list = now (rules .entry) }) (now (board .entry)) ⌝ }
+    ensures { λ r. ⌜ hostChangedOutcome r (now (board .exit))
+        ≡ openedDoor (catalogueOf (now (sizes .entry)) (now (rules .entry))) (now (board .entry)) ⌝ }
 {
     let opened = desk::open(board, sizes, rules);
     let desk = opened.desk;
@@ -40,7 +42,8 @@ pub extern "C" fn nethazel_enter(
     rules: &[u16],
     c: usize,
 ) -> HostChanged
-    ensures { λ r. ⌜ hostChangedOutcome r (now (board .exit)) ≡ throughDoor (record { sizes = now (sizes .entry); list = now (rules .entry) }) (enter c) given (now (board .entry)) ⌝ }
+    ensures { λ r. ⌜ hostChangedOutcome r (now (board .exit))
+        ≡ throughDoor (catalogueOf (now (sizes .entry)) (now (rules .entry))) (enter c) given (now (board .entry)) ⌝ }
 {
     let changed = desk::enter(desk_of(given), board, sizes, rules, c);
     changed_back(given, changed)
@@ -54,7 +57,8 @@ pub extern "C" fn nethazel_leave(
     rules: &[u16],
     c: usize,
 ) -> HostChanged
-    ensures { λ r. ⌜ hostChangedOutcome r (now (board .exit)) ≡ throughDoor (record { sizes = now (sizes .entry); list = now (rules .entry) }) (leave c) given (now (board .entry)) ⌝ }
+    ensures { λ r. ⌜ hostChangedOutcome r (now (board .exit))
+        ≡ throughDoor (catalogueOf (now (sizes .entry)) (now (rules .entry))) (leave c) given (now (board .entry)) ⌝ }
 {
     let changed = desk::leave(desk_of(given), board, sizes, rules, c);
     changed_back(given, changed)
@@ -70,7 +74,9 @@ pub extern "C" fn nethazel_choose(
     i: usize,
     a: usize,
 ) -> HostChanged
-    ensures { λ r. ⌜ hostChangedOutcome r (now (board .exit)) ≡ throughDoor (record { sizes = now (sizes .entry); list = now (rules .entry) }) (choose c i a) given (now (board .entry)) ⌝ }
+    ensures { λ r. ⌜ hostChangedOutcome r (now (board .exit))
+        ≡ throughDoor (catalogueOf (now (sizes .entry)) (now (rules .entry))) (choose c i a)
+        given (now (board .entry)) ⌝ }
 {
     let changed = desk::choose(desk_of(given), board, sizes, rules, c, i, a);
     changed_back(given, changed)
@@ -85,7 +91,8 @@ pub extern "C" fn nethazel_relax(
     c: usize,
     i: usize,
 ) -> HostChanged
-    ensures { λ r. ⌜ hostChangedOutcome r (now (board .exit)) ≡ throughDoor (record { sizes = now (sizes .entry); list = now (rules .entry) }) (relax c i) given (now (board .entry)) ⌝ }
+    ensures { λ r. ⌜ hostChangedOutcome r (now (board .exit))
+        ≡ throughDoor (catalogueOf (now (sizes .entry)) (now (rules .entry))) (relax c i) given (now (board .entry)) ⌝ }
 {
     let changed = desk::relax(desk_of(given), board, sizes, rules, c, i);
     changed_back(given, changed)
@@ -100,7 +107,9 @@ pub extern "C" fn nethazel_options(
     c: usize,
     i: usize,
 ) -> HostLeft
-    ensures { λ r. ⌜ hostLeftAnswer r ≡ inside (record { sizes = now (sizes .entry); list = now (rules .entry) }) (options c i) given (now (board .entry)) .answer ⌝ }
+    ensures { λ r. ⌜ hostLeftAnswer r
+        ≡ inside (catalogueOf (now (sizes .entry)) (now (rules .entry))) (options c i) given (now (board .entry))
+        .answer ⌝ }
 {
     left_back(desk::options(desk_of(given), board, sizes, rules, c, i))
 }
@@ -116,8 +125,12 @@ pub extern "C" fn nethazel_example(
     i: usize,
     a: usize,
 ) -> HostExample
-    ensures place { λ r. ⌜ r ≡ exampleStands (inside (record { sizes = now (sizes .entry); list = now (rules .entry) }) (example c i a) given (now (board .entry)) .answer .number) c i a ⌝ }
-    ensures bytes { λ r. ⌜ take (r .length) (drop (r .from) (now (board .entry))) ≡ inside (record { sizes = now (sizes .entry); list = now (rules .entry) }) (example c i a) given (now (board .entry)) .answer .bytes ⌝ }
+    ensures place { λ r. ⌜ r ≡ exampleStands
+        (inside (catalogueOf (now (sizes .entry)) (now (rules .entry))) (example c i a) given (now (board .entry))
+        .answer .number) c i a ⌝ }
+    ensures bytes { λ r. ⌜ take (r .length) (drop (r .from) (now (board .entry)))
+        ≡ inside (catalogueOf (now (sizes .entry)) (now (rules .entry))) (example c i a) given (now (board .entry))
+        .answer .bytes ⌝ }
 {
     let number = desk::example_number(desk_of(given), board, sizes, rules, c, i, a);
     if number != 0 {
@@ -142,7 +155,8 @@ pub extern "C" fn nethazel_turns(
     rules: &[u16],
     w: u16,
 ) -> HostTurned
-    ensures { λ r. ⌜ hostTurnedOutcome r (now (board .exit)) ≡ throughDoor (record { sizes = now (sizes .entry); list = now (rules .entry) }) (turns w) given (now (board .entry)) ⌝ }
+    ensures { λ r. ⌜ hostTurnedOutcome r (now (board .exit))
+        ≡ throughDoor (catalogueOf (now (sizes .entry)) (now (rules .entry))) (turns w) given (now (board .entry)) ⌝ }
 {
     let turned = desk::turns(desk_of(given), board, sizes, rules, w);
     turned_back(given, turned)

@@ -6,14 +6,15 @@ ghost use mathlib.Core.Path.{_≡_};
 ghost use mathlib.Core.Bool.{_&&_};
 ghost use Prim.Native.Nat.{_<_};
 ghost use lib.ListN.{length, getD};
+ghost use Rattle.catalogue.specs.Catalogue.{catalogueOf};
 ghost use Rattle.catalogue.specs.Fault.{faultOf, sizesFault};
 ghost use Rattle.seat.specs.Fit.{everyBelow, choiceFits, maskFits, emptyAt, placeFits, seatFits, entryFits};
 ghost use Rattle.seat.specs.Ways.{restFits, placedFits};
 
 // Whether a record fits a catalogue without a fault. A closed seat is empty, and what is empty fits any sizes.
 pub fn seat_fits(seat: Seat, sizes: &[u8], rules: &[u16]) -> bool
-    requires { ⌜ faultOf (record { sizes = now sizes; list = now rules }) ≡ 0 ⌝ }
-    ensures { λ r. ⌜ r ≡ seatFits (record { sizes = now (sizes .entry); list = now (rules .entry) }) seat ⌝ }
+    requires { ⌜ faultOf (catalogueOf (now sizes) (now rules)) ≡ 0 ⌝ }
+    ensures { λ r. ⌜ r ≡ seatFits (catalogueOf (now (sizes .entry)) (now (rules .entry))) seat ⌝ }
 {
     let choices = seat.choices;
     let masks = seat.masks;
@@ -38,8 +39,11 @@ pub fn seat_fits(seat: Seat, sizes: &[u8], rules: &[u16]) -> bool
 
 // What is asked of the choices, masks and trial of an open seat.
 fn open_fits(choices: &[u8], masks: &[u16], trial: &[u8], depth: usize, sizes: &[u8]) -> bool
-    requires { ⌜ (length (now choices) ≡ 16) × (length (now masks) ≡ 16) × (length (now trial) ≡ 16) × (sizesFault (now sizes) ≡ 0) ⌝ }
-    ensures { λ r. ⌜ r ≡ (everyBelow 16 (choiceFits (now (sizes .entry)) (now (choices .entry))) && everyBelow 16 (maskFits (now (sizes .entry)) (now (masks .entry))) && everyBelow 16 (entryFits (now (sizes .entry)) depth (now (trial .entry)))) ⌝ }
+    requires { ⌜ (length (now choices) ≡ 16) × (length (now masks) ≡ 16) × (length (now trial) ≡ 16)
+        × (sizesFault (now sizes) ≡ 0) ⌝ }
+    ensures { λ r. ⌜ r ≡ (everyBelow 16 (choiceFits (now (sizes .entry)) (now (choices .entry)))
+        && everyBelow 16 (maskFits (now (sizes .entry)) (now (masks .entry)))
+        && everyBelow 16 (entryFits (now (sizes .entry)) depth (now (trial .entry)))) ⌝ }
 {
     if !choices_fit(choices, sizes) {
         return false;
@@ -150,7 +154,7 @@ fn all_empty(choices: &[u8], masks: &[u16]) -> bool
 }
 
 fn place_fits(place: Place, sizes: &[u8], rules: &[u16]) -> bool
-    ensures { λ r. ⌜ r ≡ placeFits (record { sizes = now (sizes .entry); list = now (rules .entry) }) place ⌝ }
+    ensures { λ r. ⌜ r ≡ placeFits (catalogueOf (now (sizes .entry)) (now (rules .entry))) place ⌝ }
 {
     let i = place.feature as usize;
     let j = place.depth as usize;

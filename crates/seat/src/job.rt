@@ -19,7 +19,8 @@ pub fn enter(seat: Seat, share: &mut [u8], sizes: &[u8]) -> Seat
 
 pub fn choose(seat: Seat, share: &mut [u8], sizes: &[u8], feature: usize, option: u8) -> Seat
     requires { ⌜ (feature < 16) × (length (now share) ≡ 4096) × (1 ≤ getD (now sizes) 0 0) ⌝ }
-    ensures { λ r. ⌜ record { seat = r; share = now (share .exit) } ≡ posted (now (sizes .entry)) (set (seat .choices) feature option) ⌝ }
+    ensures { λ r. ⌜ record { seat = r; share = now (share .exit) }
+        ≡ posted (now (sizes .entry)) (set (seat .choices) feature option) ⌝ }
 {
     let mut choices = seat.choices;
     choices[feature] = option;
@@ -28,7 +29,8 @@ pub fn choose(seat: Seat, share: &mut [u8], sizes: &[u8], feature: usize, option
 
 pub fn relax(seat: Seat, share: &mut [u8], sizes: &[u8], feature: usize) -> Seat
     requires { ⌜ (feature < 16) × (length (now share) ≡ 4096) × (1 ≤ getD (now sizes) 0 0) ⌝ }
-    ensures { λ r. ⌜ record { seat = r; share = now (share .exit) } ≡ posted (now (sizes .entry)) (set (seat .choices) feature 255) ⌝ }
+    ensures { λ r. ⌜ record { seat = r; share = now (share .exit) }
+        ≡ posted (now (sizes .entry)) (set (seat .choices) feature 255) ⌝ }
 {
     choose(seat, share, sizes, feature, 255)
 }

@@ -1,10 +1,11 @@
--- Refused, no bytes are handed out. Accepted, it is those of the example, which lie within the board.
-use Prim.Native.Nat.{_+_, _-_, _*_, _<_}
+-- Refused, no bytes are handed out. Accepted, it is those of the example, where they stand in the board.
+use Prim.Native.Nat.{ℕ, zero, suc, _+_, _-_, _*_, _<_}
 use mathlib.Core.Path.{_≡_, refl, sym, ap, _∙_}
 use native.Mathlib.Omega.{arith}
 use borrow.Author.Needs.{needs}
 use Rattle.catalogue.specs.Fault.{member}
 use Rattle.desk.specs.Call.{example}
+use Rattle.desk.specs.Answers.{exampleBegins}
 use Rattle.desk.specs.Refusal.{refusal}
 use Rattle.desk.specs.Perform.{Outcome, done}
 use Rattle.desk.proofs.Performed.{perform-accepted}
@@ -21,10 +22,19 @@ example-refusal-requires c κs = search needs
 slice-aggregate-result : tie.Need-slice-aggregate-result
 slice-aggregate-result c = search needs
 
+begins-nowhere : (board : ℕ × ℕ) (number c i a : ℕ) → (number ≡ 0 → ⊥) → board ≡ exampleBegins board number c i a
+begins-nowhere board zero c i a refused = absurd (refused refl)
+begins-nowhere board (suc number) c i a refused = refl
+
 returns : tie.Need-returns
 returns c =
-    ap (λ (outcome : Outcome). outcome .answer .bytes)
-    (refused-call _ _ _ _ (c .before .before .example-refusal .ensures _ refl) (c .before .if1 .taken))
+    let a = c .before .before .before .before .before .before .args in
+    let refused = c .before .if1 .taken in
+    let same = refused-call _ _ _ _ (c .before .before .example-refusal .ensures _ refl) refused in (
+      ap (λ (outcome : Outcome). outcome .answer .bytes) same,
+      begins-nowhere _ _ _ _ _ refused
+          ∙ ap (λ (outcome : Outcome). exampleBegins (a .board .ptr) (outcome .answer .number) (a .c) (a .i) (a .a)) same,
+    )
 
 -- past the check the call is not refused
 not-refused : (c : tie.Else1) → let a = c .before .before .before .before .before .args in
@@ -73,8 +83,11 @@ returns-2 c =
     let none = not-refused (c .before) in
     let b = bounds (c .before) in
     let sixteen : a .c * 4096 + a .i * 256 + a .a * 16 + 16 - (a .c * 4096 + a .i * 256 + a .a * 16) ≡ 16 = omega arith in
-    rw (sixteen, example-on-board (a .board .now) (accepted _ _ _ none .board-length) (b .0) (b .1) (b .2))
-    (ap (λ (outcome : Outcome). outcome .answer .bytes) (sym (perform-accepted _ _ _ none)))
+    let same = sym (perform-accepted _ _ _ none) in (
+      rw (sixteen, example-on-board (a .board .now) (accepted _ _ _ none .board-length) (b .0) (b .1) (b .2))
+          (ap (λ (outcome : Outcome). outcome .answer .bytes) same),
+      ap (λ (outcome : Outcome). exampleBegins (a .board .ptr) (outcome .answer .number) (a .c) (a .i) (a .a)) same,
+    )
 
 pub example-spec : {M : Type 1} → statement M
 example-spec =
