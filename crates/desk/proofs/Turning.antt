@@ -1,12 +1,13 @@
 -- What holds between two turns of a call: the room is sound, so many turns have led to it, and the marks of who is at work
 -- are those of its seats. A turn keeps all of it. Where no turn is left to make or nobody is at work, the call is done.
 use Prim.Native.Nat.{ℕ, _+_, _<_, _≤_}
-use mathlib.Core.Path.{_≡_, sym, _∙_}
-use mathlib.Core.Bool.{Bool}
+use mathlib.Core.Path.{_≡_, sym, ap, _∙_}
+use mathlib.Core.Bool.{Bool, true, false}
 use mathlib.Core.List.{List}
 use mathlib.Core.Logic.{_⊎_, ⊎-elim}
 use mathlib.Core.Option.{none, some}
-use lib.ListN.{set}
+use lib.ListN.{getD, set}
+use lib.Seq.{set-getD}
 use Rattle.catalogue.specs.Catalogue.{Catalogue}
 use Rattle.catalogue.specs.Fault.{faultOf}
 use Rattle.seat.specs.Clinic.{Clinic}
@@ -17,7 +18,8 @@ use Rattle.desk.specs.Answers.{trueFrom}
 use Rattle.desk.specs.Perform.{turnsAnswer, done}
 use Rattle.desk.specs.Turn.{isAtWork, isSome, served, turnFor, turn, afterTurns, turnsMade}
 use Rattle.desk.proofs.Sound.{Sound, turn-sound}
-use Rattle.desk.proofs.FirstAtWork.{marks, marks-set, marks-found}
+use Rattle.desk.proofs.Served.{FoundAtWork, served-found}
+use Rattle.desk.proofs.FirstAtWork.{marks, mark-at, marks-set, marks-found}
 use Rattle.desk.proofs.MadeTurns.{Made, one-more, all-made, nobody-left}
 
 pub record Turning (catalogue : Catalogue) (w : ℕ) (start : Room) (made : ℕ) (working : List Bool) (room : Room) : Type 0 where
@@ -36,6 +38,20 @@ module _
   where
     pub found-served : trueFrom 8 working (room .desk .next) ≡ served (room .desk)
     found-served = rw (now .marked) (marks-found 8 (room .desk) (room .desk .next))
+
+    -- the seat found is one of the eight and at work
+    found-seat : (c : ℕ) → trueFrom 8 working (room .desk .next) ≡ some c → FoundAtWork (room .desk) c
+    found-seat c found = served-found (room .desk) (now .sound .next-below) c (sym found-served ∙ found)
+
+    pub found-below : (c : ℕ) → trueFrom 8 working (room .desk .next) ≡ some c → c < 8
+    found-below c found = found-seat c found .below
+
+    -- its mark stays while it is at work
+    pub still-marked : (c : ℕ) → trueFrom 8 working (room .desk .next) ≡ some c → set working c true ≡ working
+    still-marked c found =
+        let marked : getD working c false ≡ true =
+        ap (λ (bits : List Bool). getD bits c false) (now .marked) ∙ mark-at (room .desk .seats) c ∙ found-seat c found .at-work in
+        rw marked at (set-getD working c false)
 
     pub turn-made : faultOf catalogue ≡ 0 → made < w → (c : ℕ) → trueFrom 8 working (room .desk .next) ≡ some c
         → (clinic : Clinic) → clinic ≡ step catalogue (clinicAt room c)

@@ -18,7 +18,8 @@ ghost use Rattle.desk.specs.Call.{turns};
 ghost use Rattle.desk.specs.Answers.{TurnsTo, foundOf, trueFrom};
 ghost use Rattle.desk.specs.Fit.{deskFits};
 ghost use Rattle.desk.specs.Marks.{marksOf};
-ghost use Rattle.desk.specs.Perform.{perform, done};
+ghost use Rattle.desk.specs.Perform.{performed, done};
+ghost use Rattle.desk.specs.Room.{roomOf};
 ghost use Rattle.desk.specs.Turn.{isAtWork, isSome};
 
 // The first seat at work, if there is one.
@@ -29,7 +30,9 @@ pub enum Found {
 
 // w turns, or fewer when no seat is at work.
 pub fn turns(desk: Desk, board: &mut [u8], sizes: &[u8], rules: &[u16], w: u16) -> Turned
-    ensures { λ r. ⌜ TurnsTo (perform (record { sizes = now (sizes .entry); list = now (rules .entry) }) (turns w) (record { desk = desk; board = now (board .entry) })) r (now (board .exit)) ⌝ }
+    ensures { λ r. ⌜ TurnsTo
+        (performed (now (sizes .entry)) (now (rules .entry)) desk (now (board .entry)) (turns w))
+        r (now (board .exit)) ⌝ }
 {
     let number = turns_number(desk, board.len(), sizes, rules);
     if number != 0 {

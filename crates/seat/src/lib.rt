@@ -13,6 +13,7 @@ pub use job::closed;
 pub use job::enter;
 pub use job::relax;
 pub use lent::step_in;
+pub use search::edge;
 pub use share::empty;
 
 // Where a search stands: it looks for a build with `option` at `feature`, has placed options before `depth`, and

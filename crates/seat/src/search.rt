@@ -268,6 +268,19 @@ fn trial_after(trial: [u8; 16], edge: &[u8], depth: u8, next: u8, kept: u8) -> [
     after
 }
 
+// Made once where turns begin, and lent to every step.
+pub fn edge() -> [u8; 32]
+    ensures { λ r. ⌜ r ≡ edgeBytes ⌝ }
+{
+    let mut bytes = [0u8; 32];
+    let mut i = 0usize;
+    while i < 16 {
+        bytes[i] = 255;
+        i += 1;
+    }
+    bytes
+}
+
 // A pair ends, and the next starts in the same step; after the last the seat is ready.
 fn pair_ended(sizes: &[u8], choices: &[u8], feature: u8, option: u8, found: bool) -> After
     requires { ⌜ (length (now sizes) ≤ 16) × (feature < length (now sizes)) × (option < 16) ⌝ }

@@ -1,39 +1,41 @@
 -- Between two turns it holds what `Turning` says. The seat that the search finds is the one that the next turn serves; its
--- share is lent to the step and comes back as the step leaves it, so the room is that of one turn more.
-use Prim.Native.Nat.{ℕ, _-_, _<_, _≤_}
+-- share is lent to the step and comes back as the step leaves it, so the room is that of one turn more. Its mark is cleared
+-- where its job has ended, and stays where it has not.
+use Prim.Native.Nat.{ℕ, _+_, _-_, _*_, _<_, _≤_}
 use mathlib.Core.Path.{_≡_, refl, sym, ap, _∙_}
+use mathlib.Core.Bool.{Bool, true, false}
 use mathlib.Core.List.{List}
 use mathlib.Core.Logic.{_⊎_, inl, inr, ⊎-elim}
 use mathlib.Core.Option.{none, some}
+use native.Mathlib.Omega.{arith}
 use borrow.Author.Needs.{needs}
-use lib.ListN.{length, length-replicate}
-use Rattle.catalogue.specs.Catalogue.{Catalogue}
+use lib.ListN.{length, set, length-replicate}
+use Rattle.catalogue.specs.Catalogue.{Catalogue, catalogueOf}
 use Rattle.catalogue.proofs.Faultless.{fault-zero, fault-whole}
 use Rattle.seat.specs.declared.Seat.{Seat}
-use Rattle.seat.specs.Clinic.{Clinic}
+use Rattle.seat.specs.Clinic.{Clinic, clinicOf, put}
 use Rattle.seat.specs.Step.{step}
-use Rattle.desk.specs.declared.Desk.{Desk}
 use Rattle.desk.specs.Answers.{foundOf, trueFrom}
 use Rattle.desk.specs.Marks.{marksOf}
-use Rattle.desk.specs.Room.{Room, clinicAt, withClinic}
+use Rattle.desk.specs.Room.{Room, roomOf, clinicAt, withClinic}
+use Rattle.desk.specs.Turn.{isAtWork, seatAfter}
 use Rattle.desk.proofs.ArrayLengths.{eight-seats, sixteen-each}
 use Rattle.desk.proofs.LentShare.{lent-length, lent-is, back-is}
-use Rattle.desk.proofs.Served.{served-found}
 use Rattle.desk.proofs.Sound.{fits-sound}
 use Rattle.desk.proofs.MadeTurns.{none-made}
-use Rattle.desk.proofs.Turning.{Turning, found-served, turn-made, turns-done}
+use Rattle.desk.proofs.Turning.{Turning, found-below, still-marked, turn-made, turns-done}
 use Rattle.desk.proofs.ring.make_turns.Statement.{statement}
 use Rattle.desk.proofs.ring.make_turns.Tie as tie
 
 abbrev room : List Seat → ℕ → List ℕ → Room
-room seats next board = record { desk = record { seats = seats; next = next }; board = board }
+room seats next board = roomOf (record { seats = seats; next = next }) board
 
 abbrev Inv-loop : tie.InvT-loop
-Inv-loop board₀ sizes rules w places counts seats₀ next₀ working₀ made₀ board seats next working made =
-    Turning (record { sizes = sizes; list = rules }) w (room seats₀ next₀ board₀) made (marksOf working) (room seats next board)
+Inv-loop board₀ sizes rules w places counts edge seats₀ next₀ working₀ made₀ board seats next working made =
+    Turning (catalogueOf sizes rules) w (room seats₀ next₀ board₀) made (marksOf working) (room seats next board)
 
 abbrev μ-loop : tie.MeasureT-loop
-μ-loop board₀ sizes rules w places counts seats₀ next₀ working₀ made₀ board seats next working made = w - made
+μ-loop board₀ sizes rules w places counts edge seats₀ next₀ working₀ made₀ board seats next working made = w - made
 
 -- the seat found, and where the turn and the function began
 abbrev seat-of : tie.After-known-told Inv-loop μ-loop → ℕ
@@ -42,19 +44,11 @@ seat-of p = p .before .c .given .0 .0
 abbrev head-of : tie.After-known-told Inv-loop μ-loop → tie.At-loop Inv-loop μ-loop
 head-of p = p .before .before .before .before .before
 
-abbrev start-of : tie.After-known-told Inv-loop μ-loop → tie.Start Inv-loop μ-loop
-start-of p = head-of p .before .before .before .before .before .before .before .before .before
-
--- the same turn, after its step
-abbrev turn-of : tie.After-is-at-work Inv-loop μ-loop → tie.After-known-told Inv-loop μ-loop
-turn-of p = p .before .before .before .before .before .before .before .before
-
--- the same turn, after its mark
-abbrev asked-of : tie.After-with-mark Inv-loop μ-loop → tie.After-is-at-work Inv-loop μ-loop
-asked-of p = p .before
+abbrev start-of : tie.At-loop Inv-loop μ-loop → tie.Start Inv-loop μ-loop
+start-of p = p .before .before .before .before .before .before .before .before .before .before
 
 -- a turn is left to make
-turn-left : (p : tie.After-known-told Inv-loop μ-loop) → head-of p .loop .made < start-of p .args .w
+turn-left : (p : tie.After-known-told Inv-loop μ-loop) → head-of p .loop .made < start-of (head-of p) .args .w
 turn-left p = p .before .before .before .before .loop-test .taken
 
 found : (p : tie.After-known-told Inv-loop μ-loop)
@@ -62,29 +56,28 @@ found : (p : tie.After-known-told Inv-loop μ-loop)
 found p = sym (p .before .before .before .first-at-work .ensures) ∙ ap foundOf (p .before .c .given .1)
 
 seat-below : (p : tie.After-known-told Inv-loop μ-loop) → seat-of p < 8
-seat-below p =
-    let head = head-of p in
-    let desk : Desk = record { seats = head .loop .seats; next = head .loop .next } in
-    served-found desk (head .loop .inv .sound .next-below) (seat-of p) (sym (found-served (head .loop .inv)) ∙ found p)
-    .below
+seat-below p = found-below (head-of p .loop .inv) (seat-of p) (found p)
 
 starts-of-requires : tie.Need-starts-of-requires Inv-loop μ-loop
 starts-of-requires c κs =
     let start = c .before .before .before .before .before in
-    let catalogue : Catalogue = record { sizes = start .args .sizes .now; list = start .args .rules .now } in (
+    let catalogue : Catalogue = catalogueOf (start .args .sizes .now) (start .args .rules .now) in (
       (fault-whole catalogue (start .pre .0 .1), fault-zero catalogue (start .pre .0 .1) .list-fits),
       (length-replicate {A = ℕ} 1024 0, refl),
     )
+
+edge-requires : tie.Need-edge-requires Inv-loop μ-loop
+edge-requires c κs = search needs
 
 seats-at-work-requires : tie.Need-seats-at-work-requires Inv-loop μ-loop
 seats-at-work-requires c κs = search needs
 
 loop-holds : tie.Need-loop-holds Inv-loop μ-loop
 loop-holds c =
-    let start = c .before .before .before .before .before .before .before .before in
-    let catalogue : Catalogue = record { sizes = start .args .sizes .now; list = start .args .rules .now } in
+    let start = c .before .before .before .before .before .before .before .before .before in
+    let catalogue : Catalogue = catalogueOf (start .args .sizes .now) (start .args .rules .now) in
     let desk = start .args .desk in
-    let first : Room = record { desk = desk; board = start .args .board .now } in
+    let first : Room = roomOf desk (start .args .board .now) in
     let eight = eight-seats desk _ (start .good .0) in
     let sixteen = sixteen-each desk _ (start .good .0) in
     record {
@@ -108,29 +101,26 @@ enum-told c = search needs
 mul-from : tie.Need-mul-from Inv-loop μ-loop
 mul-from c = let l = seat-below c in search needs
 
-add-after : tie.Need-add-after Inv-loop μ-loop
-add-after c = let l = seat-below c in search needs
+add-share : tie.Need-add-share Inv-loop μ-loop
+add-share c = let l = seat-below c in search needs
+
+sub-share : tie.Need-sub-share Inv-loop μ-loop
+sub-share c = search needs
+
+part-share-start : tie.Need-part-share-start Inv-loop μ-loop
+part-share-start c = search needs
+
+part-share-end : tie.Need-part-share-end Inv-loop μ-loop
+part-share-end c =
+    let l = seat-below c in
+    let whole = head-of c .loop .inv .sound .board-length in
+    search needs
 
 mul-stepped : tie.Need-mul-stepped Inv-loop μ-loop
-mul-stepped c = let l = seat-below c in search needs
+mul-stepped c = let l = seat-below (c .before) in search needs
 
 array-copy-out-stepped : tie.Need-array-copy-out-stepped Inv-loop μ-loop
-array-copy-out-stepped c = let l = seat-below c in search needs
-
-add-stepped : tie.Need-add-stepped Inv-loop μ-loop
-add-stepped c = let l = seat-below (c .before) in search needs
-
-sub-stepped : tie.Need-sub-stepped Inv-loop μ-loop
-sub-stepped c = search needs
-
-part-stepped-start : tie.Need-part-stepped-start Inv-loop μ-loop
-part-stepped-start c = search needs
-
-part-stepped-end : tie.Need-part-stepped-end Inv-loop μ-loop
-part-stepped-end c =
-    let l = seat-below (c .before) in
-    let whole = head-of (c .before) .loop .inv .sound .board-length in
-    search needs
+array-copy-out-stepped c = seat-below (c .before)
 
 slice-aggregate-stepped : tie.Need-slice-aggregate-stepped Inv-loop μ-loop
 slice-aggregate-stepped c = search needs
@@ -138,88 +128,114 @@ slice-aggregate-stepped c = search needs
 slice-aggregate-stepped-2 : tie.Need-slice-aggregate-stepped-2 Inv-loop μ-loop
 slice-aggregate-stepped-2 c = search needs
 
+slice-aggregate-stepped-3 : tie.Need-slice-aggregate-stepped-3 Inv-loop μ-loop
+slice-aggregate-stepped-3 c = search needs
+
 stepped-requires : tie.Need-stepped-requires Inv-loop μ-loop
 stepped-requires c κs =
-    let here = c .before .before .before .before in
+    let here = c .before .before .before .before .before in
     let head = head-of here in
-    let start = start-of here in
-    let l = seat-below here in (
-      start .pre .0 .1,
-      (
-        head .loop .inv .sound .clinics-fit (seat-of here) l .fits,
-        (
-          lent-length (head .loop .board) (seat-of here) (head .loop .inv .sound .board-length) l,
-          head .before .before .before .starts-of .ensures,
-        ),
-      ),
-    )
-
-is-at-work-requires : tie.Need-is-at-work-requires Inv-loop μ-loop
-is-at-work-requires c κs = search needs
-
-with-mark-requires : tie.Need-with-mark-requires Inv-loop μ-loop
-with-mark-requires c κs = seat-below (turn-of c)
+    let l = seat-below here in
+    record {
+      no-fault = start-of head .pre .0 .1;
+      fits = head .loop .inv .sound .clinics-fit (seat-of here) l .fits;
+      whole-share = lent-length (head .loop .board) (seat-of here) (head .loop .inv .sound .board-length) l;
+      starts = head .before .before .before .before .starts-of .ensures;
+      the-edge = head .before .before .before .edge .ensures;
+    }
 
 mul-seats : tie.Need-mul-seats Inv-loop μ-loop
-mul-seats c = let l = seat-below (turn-of (asked-of c)) in search needs
+mul-seats c = let l = seat-below (c .before .before .before .before .before .before .before .before) in search needs
 
 array-set-from-seats : tie.Need-array-set-from-seats Inv-loop μ-loop
-array-set-from-seats c = let l = seat-below (turn-of (asked-of c)) in search needs
+array-set-from-seats c = seat-below (c .before .before .before .before .before .before .before .before)
+
+add-next : tie.Need-add-next Inv-loop μ-loop
+add-next c = let l = seat-below (c .before .before .before .before .before .before .before .before) in search needs
 
 cast-next : tie.Need-cast-next Inv-loop μ-loop
 cast-next c = search needs
 
 add-made : tie.Need-add-made Inv-loop μ-loop
 add-made c =
-    let here = turn-of (asked-of c) in
-    let l = turn-left here in
-    let w-fits = start-of here .fits .w in
-    search needs
+    let here = c .before .before .before .before .before .before .before .before in
+    omega (arith, turn-left here, start-of (head-of here) .fits .w)
+
+is-at-work-requires : tie.Need-is-at-work-requires Inv-loop μ-loop
+is-at-work-requires c κs = search needs
 
 loop-less : tie.Need-loop-less Inv-loop μ-loop
-loop-less c = search needs
+loop-less c = let l = turn-left (c .before .before .before .before .before .before .before .before .before .before) in search needs
+
+-- after the step: the clinic as it leaves it, and the room, with the mark made anew
+module _ (p : tie.After-stepped Inv-loop μ-loop) where
+  abbrev here : tie.After-known-told Inv-loop μ-loop
+  here = p .before .before .before .before .before .before
+
+  abbrev head : tie.At-loop Inv-loop μ-loop
+  head = head-of here
+
+  abbrev share : List ℕ
+  share = p .stepped .last .1 .0
+
+  abbrev clinic : Clinic
+  clinic = clinicOf (p .stepped .result) share
+
+  full : length share ≡ 4096
+  full = p .stepped .kept .1 .0 ∙ lent-length (head .loop .board) (seat-of here) (head .loop .inv .sound .board-length) (seat-below here)
+
+  same : clinic ≡ step (catalogueOf (start-of head .args .sizes .now) (start-of head .args .rules .now)) (clinicAt (room (head .loop .seats) (head .loop .next) (head .loop .board)) (seat-of here))
+  same = rw (lent-is (head .loop .board) (seat-of here)) at (p .stepped .ensures)
+
+  abbrev after : Bool → Type 0
+  after mark =
+      Turning (catalogueOf (start-of head .args .sizes .now) (start-of head .args .rules .now)) (start-of head .args .w)
+      (room (start-of head .args .desk .seats) (start-of head .args .desk .next) (start-of head .args .board .now)) (head .loop .made + 1)
+      (set (marksOf (head .loop .working)) (seat-of here) mark)
+      (room (set (head .loop .seats) (seat-of here) (p .stepped .result)) (seatAfter (seat-of here)) (put (head .loop .board) (seat-of here * 4096) share))
+
+  turned-so : (mark : Bool) → isAtWork (p .stepped .result .state) ≡ mark → after mark
+  unfolding withClinic
+  turned-so mark is =
+      rw is at (turn-made (head .loop .inv) (start-of head .pre .0 .1) (turn-left here) (seat-of here) (found here) clinic same)
 
 loop-again : tie.Need-loop-again Inv-loop μ-loop
-unfolding withClinic
 loop-again c =
-    let here = turn-of (asked-of c) in
-    let stepped = asked-of c .before .before .before .stepped in
-    let head = head-of here in
-    let board = head .loop .board in
-    let seat : ℕ = seat-of here in
-    let share : List ℕ = stepped .last .1 .0 in
-    let clinic : Clinic = record { seat = stepped .result; share = share } in
-    let full : length share ≡ 4096 =
-    stepped .kept .1 .0 ∙ lent-length board seat (head .loop .inv .sound .board-length) (seat-below here) in
-    let same : clinic ≡ step _ (clinicAt (room (head .loop .seats) (head .loop .next) board) seat) =
-    rw (lent-is board seat) at (stepped .ensures) in
-    rw (c .with-mark .ensures, asked-of c .is-at-work .ensures, back-is board seat share full)
-    (turn-made (head .loop .inv) (start-of here .pre .0 .1) (turn-left here) seat (found here) clinic same)
+    let p = c .before .before .before .before in
+    let at-work : isAtWork (p .stepped .result .state) ≡ true = sym (c .before .is-at-work .ensures) ∙ c .if1 .taken in
+    rw (back-is (head p .loop .board) (seat-of (here p)) (share p) (full p))
+    (rw (still-marked (head p .loop .inv) (seat-of (here p)) (found (here p))) at (turned-so p true at-work))
 
-cast-first-at-work-2 : tie.Need-cast-first-at-work-2 Inv-loop μ-loop
-cast-first-at-work-2 c = search needs
+with-mark-requires : tie.Need-with-mark-requires Inv-loop μ-loop
+with-mark-requires c κs = seat-below (c .before .before .before .before .before .before .before .before .before .before)
 
-first-at-work-requires-2 : tie.Need-first-at-work-requires-2 Inv-loop μ-loop
-first-at-work-requires-2 c κs = c .before .loop .inv .sound .next-below
+loop-less-2 : tie.Need-loop-less-2 Inv-loop μ-loop
+loop-less-2 c = let l = turn-left (c .before .before .before .before .before .before .before .before .before .before .before) in search needs
 
-is-someone-requires : tie.Need-is-someone-requires Inv-loop μ-loop
-is-someone-requires c κs = search needs
+loop-again-2 : tie.Need-loop-again-2 Inv-loop μ-loop
+loop-again-2 c =
+    let p = c .before .before .before .before .before in
+    let idle : isAtWork (p .stepped .result .state) ≡ false =
+    sym (c .before .before .is-at-work .ensures) ∙ c .before .if1 .left in
+    rw (c .with-mark .ensures, back-is (head p .loop .board) (seat-of (here p)) (share p) (full p)) (turned-so p false idle)
+
+turned-requires : tie.Need-turned-requires Inv-loop μ-loop
+turned-requires c κs = c .before .loop .inv .sound .next-below
 
 same-length : tie.Need-same-length Inv-loop μ-loop
-same-length c = search needs
+same-length c = let now = c .before .before .loop .inv .sound .board-length in let came = start-of (c .before .before) .pre .0 .0 in search needs
 
 -- the loop is left after the last turn, or when nobody is at work
 ended : (p : tie.Left-loop Inv-loop μ-loop)
-    → (p .before .before .before .before .before .before .before .before .before .before .args .w ≤ p .before .loop .made)
+    → (start-of (p .before) .args .w ≤ p .before .loop .made)
     ⊎ (trueFrom 8 (marksOf (p .before .loop .working)) (p .before .loop .next) ≡ none)
 ended p =
     ⊎-elim (λ w. inl (w .left)) (λ w. inr (sym (w .1 .ensures) ∙ ap foundOf (w .3 .given .1))) (p .loop-test .came)
 
 returns : tie.Need-returns Inv-loop μ-loop
 returns c =
-    let left = c .before .before in
-    rw (c .is-someone .ensures, c .before .first-at-work2 .ensures)
-    (turns-done (left .before .loop .inv) (ended left))
+    let left = c .before in
+    rw (c .turned .ensures) (turns-done (left .before .loop .inv) (ended left))
 
 pub make-turns-spec : {M : Type 1} → statement M
 make-turns-spec =
@@ -228,6 +244,7 @@ make-turns-spec =
     Inv-loop
     μ-loop
     starts-of-requires
+    edge-requires
     seats-at-work-requires
     loop-holds
     cast-first-at-work
@@ -235,26 +252,27 @@ make-turns-spec =
     enum-known-c
     enum-told
     mul-from
-    add-after
+    add-share
+    sub-share
+    part-share-start
+    part-share-end
     mul-stepped
     array-copy-out-stepped
-    add-stepped
-    sub-stepped
-    part-stepped-start
-    part-stepped-end
     slice-aggregate-stepped
     slice-aggregate-stepped-2
+    slice-aggregate-stepped-3
     stepped-requires
-    is-at-work-requires
-    with-mark-requires
     mul-seats
     array-set-from-seats
+    add-next
     cast-next
     add-made
+    is-at-work-requires
     loop-less
     loop-again
-    cast-first-at-work-2
-    first-at-work-requires-2
-    is-someone-requires
+    with-mark-requires
+    loop-less-2
+    loop-again-2
+    turned-requires
     same-length
     returns)

@@ -58,19 +58,19 @@ use Rattle.desk.proofs.ring.stepped.Code as code
 
 -- nothing is had of the record that was passed: the local that was lent is another
 abbrev stayed : Stays (stepped.ended .signature .params) (stepped.ended .kept)
-stayed = (stay-dropped (plain (λ _. Record)) yes, stay 5 0 (tt, (tt, (tt, (tt, tt)))))
+stayed = (stay-dropped (plain (λ _. Record)) yes, stay 6 0 (tt, (tt, (tt, (tt, (tt, tt))))))
 
-abbrev beside : Lfts 5 → List RattleType
-beside κs = slices 5 0 (tt, (tt, (tt, (tt, tt)))) κs
+abbrev beside : Lfts 6 → List RattleType
+beside κs = slices 6 0 (tt, (tt, (tt, (tt, (tt, tt))))) κs
 
-abbrev spelt-all : (κs : Lfts 5) → Spells (typesAt (stepped.signature .params) κs)
-spelt-all κs = (values, spelled 5 0 (tt, (tt, (tt, (tt, tt)))) κs)
+abbrev spelt-all : (κs : Lfts 6) → Spells (typesAt (stepped.signature .params) κs)
+spelt-all κs = (values, spelled 6 0 (tt, (tt, (tt, (tt, (tt, tt))))) κs)
 
 -- the contract that the proof cites
 abbrev StepIn : {M : Type 1} (𝓤 : URA M) (H : Heap 𝓤) (A : Atoms 𝓤) (mem : Memory → SProp 𝓤) (run : Routine → Fun 𝓤) → Contract 𝓤
 StepIn 𝓤 H A mem run = tripleOf 𝓤 H A step-in.signature (step-in.spec 𝓤 H A mem run)
 
-module _ {M : Type 1} (𝓤 : URA M) (H : Heap 𝓤) (A : Atoms 𝓤) (W : Given 𝓤 H A) (at-mem : Memory → SProp 𝓤) (run : Routine → Fun 𝓤) (κs : Lfts 5) (qs : Shares 5) (a : Args stepped.signature κs) where
+module _ {M : Type 1} (𝓤 : URA M) (H : Heap 𝓤) (A : Atoms 𝓤) (W : Given 𝓤 H A) (at-mem : Memory → SProp 𝓤) (run : Routine → Fun 𝓤) (κs : Lfts 6) (qs : Shares 6) (a : Args stepped.signature κs) where
   abbrev h : Seat
   h = a .0
 
@@ -81,7 +81,7 @@ module _ {M : Type 1} (𝓤 : URA M) (H : Heap 𝓤) (A : Atoms 𝓤) (W : Given
   Post = walkOf 𝓤 H A stepped.ended stayed (stepped.clauses 𝓤 H A at-mem run) .post ((κs, qs, tt, a, vss), tt)
 
   -- what `step_in`'s triple binds outside: the record lent at l for the lifetime ν under the name γ, and the slices as they came
-  abbrev lent-for : ℕ → Lfts 6
+  abbrev lent-for : ℕ → Lfts 7
   lent-for ν = (ν ∷ [], κs)
 
   abbrev passed : (l ν : ℕ) (γ : GName) → Args step-in.signature (lent-for ν)
@@ -102,8 +102,8 @@ module _ {M : Type 1} (𝓤 : URA M) (H : Heap 𝓤) (A : Atoms 𝓤) (W : Given
       → ent 𝓤 (⋆ 𝓤 H A (‵ (Record .own (ws .0) (values (ws .0))) ∷ raw tokens ∷ ‵ (finally u8 (a .1 .0 .name) (ws .1 .0)) ∷ [])) (Post (machine (ws .0)))
   exits l ν γ ws e made =
       qed W (‵ (Record .own (ws .0) (values (ws .0))) ∷ raw tokens ∷ ‵ (finally u8 (a .1 .0 .name) (ws .1 .0)) ∷ []) ∵
-      suffices ! _ (ends-at 𝓤 H A stepped.ended stayed (stepped.clauses 𝓤 H A at-mem run) W ((κs, qs, tt, a, vss), tt) (machine (ws .0)) (ws .0) (tt, ws .1) (tt, (e, (tt, (tt, (tt, (tt, tt))))))) $ says ! made $
-      nothing ! $ nothing ! $ fjoin ! $ nothing ! $ fjoin ! $ nothing ! $ fjoin ! $ nothing ! $ fjoin ! $
+      suffices ! _ (ends-at 𝓤 H A stepped.ended stayed (stepped.clauses 𝓤 H A at-mem run) W ((κs, qs, tt, a, vss), tt) (machine (ws .0)) (ws .0) (tt, ws .1) (tt, (e, (tt, (tt, (tt, (tt, (tt, tt)))))))) $ says ! made $
+      nothing ! $ nothing ! $ fjoin ! $ nothing ! $ fjoin ! $ nothing ! $ fjoin ! $ nothing ! $ fjoin ! $ nothing ! $ fjoin ! $
       -- [nothing of the `&` slices; what the record owns; the tokens; the last share]
       move ! (3 ∷ 0 ∷ []) $ fjoin ! $ nothing ! $ fjoin ! $ join ! $ move ! (1 ∷ 0 ∷ []) $ done !
 
@@ -115,50 +115,51 @@ module _ {M : Type 1} (𝓤 : URA M) (H : Heap 𝓤) (A : Atoms 𝓤) (W : Given
         split ! $ move ! (1 ∷ []) $ fsplit ! $
         -- [what the record owns; what the slices own; their tokens; what is required]
         enter ! C Λ code.function _ _ $
-        alloc1 ! (λ l₀. alloc1 ! (λ l₁. alloc1 ! (λ l₂. alloc1 ! (λ l₃. alloc1 ! (λ l₄. alloc1 ! (λ l₅. alloc1 ! (λ l₆. alloc1 ! (λ l₇. alloc1 ! (λ l₈. alloc1 ! (λ l₉. alloc1 ! (λ l₁₀. alloc1 ! (λ l₁₁. alloc0 ! $ params1 ! $
-        pass1 ! (init ! 20 refl (typed 𝓤 H A W h (machine h) is)) $ pass1 ! (init ! 18 refl (tt, (tt, (record { fits = are .0 .0 .1 .0 }, tt)))) $ pass1 ! (init ! 16 refl (tt, (tt, (record { fits = are .1 .0 .0 .1 .0 }, tt)))) $
-        pass1 ! (init ! 14 refl (tt, (tt, (record { fits = are .1 .1 .0 .0 .1 .0 }, tt)))) $ pass1 ! (init ! 12 refl (tt, (tt, (record { fits = are .1 .1 .1 .0 .0 .1 .0 }, tt)))) $
-        pass1 ! (init ! 10 refl (tt, (tt, (record { fits = are .1 .1 .1 .1 .0 .0 .1 .0 }, tt)))) $ pass0 ! $
-        -- [_11; …; _10; …; _9; …; _8; …; _7; …; _6 to _3; _2; …; _1; …; room for _0; …; what the record owns; the slices; their tokens; what is required]
-        assigns ! (of-opd ! (load ! (from ! (stop !)) (look ! 20 refl))) (from ! (stop !)) (init ! 8 refl (typed 𝓤 H A W h (machine h) is)) $
+        alloc1 ! (λ l₀. alloc1 ! (λ l₁. alloc1 ! (λ l₂. alloc1 ! (λ l₃. alloc1 ! (λ l₄. alloc1 ! (λ l₅. alloc1 ! (λ l₆. alloc1 ! (λ l₇. alloc1 ! (λ l₈. alloc1 ! (λ l₉. alloc1 ! (λ l₁₀. alloc1 ! (λ l₁₁. alloc1 ! (λ l₁₂. alloc0 ! $ params1 ! $
+        pass1 ! (init ! 22 refl (typed 𝓤 H A W h (machine h) is)) $ pass1 ! (init ! 20 refl (tt, (tt, (record { fits = are .0 .0 .1 .0 }, tt)))) $ pass1 ! (init ! 18 refl (tt, (tt, (record { fits = are .1 .0 .0 .1 .0 }, tt)))) $
+        pass1 ! (init ! 16 refl (tt, (tt, (record { fits = are .1 .1 .0 .0 .1 .0 }, tt)))) $ pass1 ! (init ! 14 refl (tt, (tt, (record { fits = are .1 .1 .1 .0 .0 .1 .0 }, tt)))) $
+        pass1 ! (init ! 12 refl (tt, (tt, (record { fits = are .1 .1 .1 .1 .0 .0 .1 .0 }, tt)))) $
+        pass1 ! (init ! 10 refl (tt, (tt, (record { fits = are .1 .1 .1 .1 .1 .0 .0 .1 .0 }, tt)))) $ pass0 ! $
+        -- [_12; …; _11; …; _10; …; _9; …; _8; …; _7 to _3; _2; …; _1; …; room for _0; …; what the record owns; the slices; their tokens; what is required]
+        assigns ! (of-opd ! (load ! (from ! (stop !)) (look ! 22 refl))) (from ! (stop !)) (init ! 8 refl (typed 𝓤 H A W h (machine h) is)) $
         assigns ! (addr ! (from ! (stop !))) (from ! (stop !)) (init ! 4 refl (tt, tt)) $
-        assigns ! (addr ! (from ! (fld ! refl (hop ! (look-in ! 18 (sub ! 0 refl (whole !))) (stop !))))) (from ! (stop !)) (init ! 2 refl (tt, tt)) $
-        assigns ! (agg ! (and-then ! (load ! (from ! (stop !)) (look ! 2 refl)) (and-then ! (load ! (from ! (fld ! refl (stop !))) (look-in ! 18 (sub ! 1 refl (whole !)))) (no-more !)))) (from ! (stop !)) (init ! 0 refl (tt, (tt, (record { fits = are .0 .0 .1 .0 }, tt)))) $
-        -- the record in _7 is lent
-        move ! (8 ∷ 24 ∷ []) $ use2 W (‵ (mem Record .lies h l₇ 0)) (lies-in 𝓤 H A W h l₇ 0 (machine h)) $
+        assigns ! (addr ! (from ! (fld ! refl (hop ! (look-in ! 20 (sub ! 0 refl (whole !))) (stop !))))) (from ! (stop !)) (init ! 2 refl (tt, tt)) $
+        assigns ! (agg ! (and-then ! (load ! (from ! (stop !)) (look ! 2 refl)) (and-then ! (load ! (from ! (fld ! refl (stop !))) (look-in ! 20 (sub ! 1 refl (whole !)))) (no-more !)))) (from ! (stop !)) (init ! 0 refl (tt, (tt, (record { fits = are .0 .0 .1 .0 }, tt)))) $
+        -- the record in _8 is lent
+        move ! (8 ∷ 26 ∷ []) $ use2 W (‵ (mem Record .lies h l₈ 0)) (lies-in 𝓤 H A W h l₈ 0 (machine h)) $
         lft-new ! tt (λ ν. move ! (1 ∷ []) $
-        use1 W (later (some (λ (γ : GName). ‵ (MutRef (named 0) (ν ∷ []) Record .own (record { ptr = (l₇, 0); name = γ; now = h }) (vptr l₇ 0 ∷ [])) ⊛ ‵ (flent (ν ∷ []) (Body (mem Record) l₇ 0 γ))))) (lends-ref 𝓤 H A W Record (named 0) (ν ∷ []) h l₇ 0) $ await ! tt $ pick ! (λ γ. split ! $
-        -- [the reference; the lender's part; ν's token; _11; …; _8; …; what frees _7; _6; …; room for _0; …; what the slices own; their tokens; what is required]
-        move ! (0 ∷ 26 ∷ []) $ fjoin ! $ move ! (2 ∷ 26 ∷ []) $ join ! $ join ! $ move ! (0 ∷ 25 ∷ []) $ join ! $ use1 W (raw (StepIn 𝓤 H A at-mem run .pre (to-step-in l₇ ν γ))) (id⊢ 𝓤 _) $
-        calls-at ! fm (StepIn 𝓤 H A at-mem run) known (to-step-in l₇ ν γ)
-        (and-then ! (load ! (from ! (stop !)) (look ! 6 refl)) (and-then ! (load ! (from ! (stop !)) (look ! 2 refl)) (and-then ! (load ! (from ! (stop !)) (look ! 17 refl)) (and-then ! (load ! (from ! (stop !)) (look ! 15 refl)) (and-then ! (load ! (from ! (stop !)) (look ! 13 refl)) (and-then ! (load ! (from ! (stop !)) (look ! 11 refl)) (no-more !))))))) (λ v.
-        use1 W (later (some (λ (r : Unit {0}). ((‵ (flft (ν ∷ []) fullShare) ⊛ raw tokens) ⊛ ‵ (unit .own r (v ∷ []))) ⊛ raw (ensured 𝓤 H A step-in.ended (step-in.clauses 𝓤 H A at-mem run) (lent-for ν) (passed l₇ ν γ) tt r)))) (id⊢ 𝓤 _) $ await ! tt $ pick ! (λ r.
+        use1 W (later (some (λ (γ : GName). ‵ (MutRef (named 0) (ν ∷ []) Record .own (record { ptr = (l₈, 0); name = γ; now = h }) (vptr l₈ 0 ∷ [])) ⊛ ‵ (flent (ν ∷ []) (Body (mem Record) l₈ 0 γ))))) (lends-ref 𝓤 H A W Record (named 0) (ν ∷ []) h l₈ 0) $ await ! tt $ pick ! (λ γ. split ! $
+        -- [the reference; the lender's part; ν's token; _12; …; _9; …; what frees _8; _7; …; room for _0; …; what the slices own; their tokens; what is required]
+        move ! (0 ∷ 28 ∷ []) $ fjoin ! $ move ! (2 ∷ 28 ∷ []) $ join ! $ join ! $ move ! (0 ∷ 27 ∷ []) $ join ! $ use1 W (raw (StepIn 𝓤 H A at-mem run .pre (to-step-in l₈ ν γ))) (id⊢ 𝓤 _) $
+        calls-at ! fm (StepIn 𝓤 H A at-mem run) known (to-step-in l₈ ν γ)
+        (and-then ! (load ! (from ! (stop !)) (look ! 6 refl)) (and-then ! (load ! (from ! (stop !)) (look ! 2 refl)) (and-then ! (load ! (from ! (stop !)) (look ! 19 refl)) (and-then ! (load ! (from ! (stop !)) (look ! 17 refl)) (and-then ! (load ! (from ! (stop !)) (look ! 15 refl)) (and-then ! (load ! (from ! (stop !)) (look ! 13 refl)) (and-then ! (load ! (from ! (stop !)) (look ! 11 refl)) (no-more !)))))))) (λ v.
+        use1 W (later (some (λ (r : Unit {0}). ((‵ (flft (ν ∷ []) fullShare) ⊛ raw tokens) ⊛ ‵ (unit .own r (v ∷ []))) ⊛ raw (ensured 𝓤 H A step-in.ended (step-in.clauses 𝓤 H A at-mem run) (lent-for ν) (passed l₈ ν γ) tt r)))) (id⊢ 𝓤 _) $ await ! tt $ pick ! (λ r.
         -- what `step_in` ensures, at some last record and share
-        split ! $ move ! (1 ∷ []) $ use1 W (some (λ (ws : Lasts step-in.ended (lent-for ν) (passed l₇ ν γ)). ‵ (lasts step-in.ended (lent-for ν) (passed l₇ ν γ) ws) ⊛ raw (fact 𝓤 (Made (ws .0) (ws .1 .0))))) (id⊢ 𝓤 _) $ pick ! (λ ws.
+        split ! $ move ! (1 ∷ []) $ use1 W (some (λ (ws : Lasts step-in.ended (lent-for ν) (passed l₈ ν γ)). ‵ (lasts step-in.ended (lent-for ν) (passed l₈ ν γ) ws) ⊛ raw (fact 𝓤 (Made (ws .0) (ws .1 .0))))) (id⊢ 𝓤 _) $ pick ! (λ ws.
         split ! $ move ! (1 ∷ []) $ heard ! (Made (ws .0) (ws .1 .0)) (λ made. fsplit ! $ move ! (1 ∷ []) $ fsplit ! $ fsplit ! $ move ! (1 ∷ []) $ feqL ! (λ e.
-        -- [the last share; …; the last record; the tokens and the result; the lender's part; _11; …; _10; …; _9; …; room for _8; …]
+        -- [the last share; …; the last record; the tokens and the result; the lender's part; _12; …; _11; …; _10; …; room for _9; …]
         move ! (3 ∷ []) $ split ! $ split ! $ move ! (2 ∷ []) $ peeks ! unit (Is unit) (shows 𝓤 H A unit) r (v ∷ []) (λ is′.
         land ! (from ! (stop !)) (init ! 13 refl (nothing-lawful 𝓤 H A W .typed r _ is′ .0)) $
         -- ν is ended, and the record comes back
-        move ! (1 ∷ []) $ lft-end ! tt $ move ! (0 ∷ 6 ∷ 5 ∷ []) $ use3 W (later (‵ (mem Record .lies (ws .0) l₇ 0))) (ref-back 𝓤 H A W Record (ν ∷ []) γ (ws .0) l₇ 0) $ await ! tt $
-        use1 W (‵ (fat fullShare T′.mir l₇ 0 (machine (ws .0))) ⊛ ‵ (Record .own (ws .0) (values (ws .0)))) (lies-out 𝓤 H A W (ws .0) l₇ 0) $ split ! $ move ! (1 ∷ []) $ peeks ! Record (Is Record) (shows 𝓤 H A Record) (ws .0) (values (ws .0)) (λ is″.
-        -- [what the new record owns; _7; the result; the tokens; the last share; …; _11; …; _10; …; _9; …; _8; …; what frees _7; _6; …; room for _0; …]
-        assigns ! (of-opd ! (load ! (from ! (stop !)) (look ! 1 refl))) (from ! (stop !)) (init ! 27 refl (typed 𝓤 H A W (ws .0) (machine (ws .0)) is″)) $
-        returns ! (look ! 27 refl) $ forget ! 1 refl $ forget ! 6 refl $ forget ! 8 refl $ forget ! 10 refl $ forget ! 12 refl $ forget ! 15 refl $ forget ! 17 refl $ forget ! 19 refl $ forget ! 21 refl $ forget ! 23 refl $ forget ! 25 refl $ forget ! 27 refl $
-        move ! (27 ∷ 28 ∷ []) $ free1 ! $ move ! (25 ∷ 26 ∷ []) $ free1 ! $ move ! (23 ∷ 24 ∷ []) $ free1 ! $ move ! (21 ∷ 22 ∷ []) $ free1 ! $ move ! (19 ∷ 20 ∷ []) $ free1 ! $ move ! (17 ∷ 18 ∷ []) $ free1 ! $ move ! (15 ∷ 16 ∷ []) $ free1 ! $
+        move ! (1 ∷ []) $ lft-end ! tt $ move ! (0 ∷ 6 ∷ 5 ∷ []) $ use3 W (later (‵ (mem Record .lies (ws .0) l₈ 0))) (ref-back 𝓤 H A W Record (ν ∷ []) γ (ws .0) l₈ 0) $ await ! tt $
+        use1 W (‵ (fat fullShare T′.mir l₈ 0 (machine (ws .0))) ⊛ ‵ (Record .own (ws .0) (values (ws .0)))) (lies-out 𝓤 H A W (ws .0) l₈ 0) $ split ! $ move ! (1 ∷ []) $ peeks ! Record (Is Record) (shows 𝓤 H A Record) (ws .0) (values (ws .0)) (λ is″.
+        -- [what the new record owns; _8; the result; the tokens; the last share; …; _12; …; _11; …; _10; …; _9; …; what frees _8; _7; …; room for _0; …]
+        assigns ! (of-opd ! (load ! (from ! (stop !)) (look ! 1 refl))) (from ! (stop !)) (init ! 29 refl (typed 𝓤 H A W (ws .0) (machine (ws .0)) is″)) $
+        returns ! (look ! 29 refl) $ forget ! 1 refl $ forget ! 6 refl $ forget ! 8 refl $ forget ! 10 refl $ forget ! 12 refl $ forget ! 15 refl $ forget ! 17 refl $ forget ! 19 refl $ forget ! 21 refl $ forget ! 23 refl $ forget ! 25 refl $ forget ! 27 refl $ forget ! 29 refl $
+        move ! (29 ∷ 30 ∷ []) $ free1 ! $ move ! (27 ∷ 28 ∷ []) $ free1 ! $ move ! (25 ∷ 26 ∷ []) $ free1 ! $ move ! (23 ∷ 24 ∷ []) $ free1 ! $ move ! (21 ∷ 22 ∷ []) $ free1 ! $ move ! (19 ∷ 20 ∷ []) $ free1 ! $ move ! (17 ∷ 18 ∷ []) $ free1 ! $ move ! (15 ∷ 16 ∷ []) $ free1 ! $
         move ! (1 ∷ 14 ∷ []) $ free1 ! $ move ! (11 ∷ 12 ∷ []) $ free1 ! $ move ! (9 ∷ 10 ∷ []) $ free1 ! $ move ! (7 ∷ 8 ∷ []) $ free1 ! $ move ! (5 ∷ 6 ∷ []) $ free1 ! $ free0 ! $
-        keep ! (0 ∷ 2 ∷ 3 ∷ []) $ by ! (exits l₇ ν γ ws e made))))))))))))))))))))))
+        keep ! (0 ∷ 2 ∷ 3 ∷ []) $ by ! (exits l₈ ν γ ws e made)))))))))))))))))))))))
 
 module _ {M : Type 1} (𝓤 : URA M) (H : Heap 𝓤) (A : Atoms 𝓤) (W : Given 𝓤 H A) (mem : Memory → SProp 𝓤) (run : Routine → Fun 𝓤) where
   stepped-walks : (C : Calls 𝓤 H) (Λ : Loops 𝓤 H) → FmC 𝓤 H (W .laws) C → Triple 𝓤 (C #seat·step-in) (StepIn 𝓤 H A mem run) → Walks 𝓤 H A stepped.ended stayed (WpFn 𝓤 H C Λ code.function) (stepped.clauses 𝓤 H A mem run)
   stepped-walks C Λ fm known = walked 𝓤 H A stepped.ended stayed (stepped.clauses 𝓤 H A mem run) (WpFn 𝓤 H C Λ code.function) spelt-all
-      (λ κs. (LL.tells T.the-type T′.the-laws, told 5 0 (tt, (tt, (tt, (tt, tt)))) κs))
+      (λ κs. (LL.tells T.the-type T′.the-laws, told 6 0 (tt, (tt, (tt, (tt, (tt, tt))))) κs))
       (λ κs qs bounds a g are. walk 𝓤 H A W mem run κs qs a C Λ fm known (are .0) (are .1))
 
 stepped-meets : {M : Type 1} (𝓤 : URA M) (H : Heap 𝓤) (A : Atoms 𝓤) → Given 𝓤 H A → (mem : Memory → SProp 𝓤) (run : Routine → Fun 𝓤) (𝓣 : Tables 𝓤 H) → Triple 𝓤 (𝓣 .C #seat·step-in) (StepIn 𝓤 H A mem run)
     → Meets 𝓤 H A stepped.signature (WpFn 𝓤 H (𝓣 .C) (𝓣 .Λ) code.function) (stepped.spec 𝓤 H A mem run)
 stepped-meets 𝓤 H A W mem run 𝓣 known =
-    walk-meets 𝓤 H A stepped.ended stayed W (goes-dropped 𝓤 H A W 5 (plain (λ _. Record)) yes (λ κs x f. refl), go 5 0 (tt, (tt, (tt, (tt, tt)))) 𝓤 H A W) (stepped.clauses 𝓤 H A mem run)
+    walk-meets 𝓤 H A stepped.ended stayed W (goes-dropped 𝓤 H A W 6 (plain (λ _. Record)) yes (λ κs x f. refl), go 6 0 (tt, (tt, (tt, (tt, (tt, tt))))) 𝓤 H A W) (stepped.clauses 𝓤 H A mem run)
     (WpFn 𝓤 H (𝓣 .C) (𝓣 .Λ) code.function) (WpFn-mono 𝓤 H (W .laws) 𝓣 code.function) (stepped-walks 𝓤 H A W mem run (𝓣 .C) (𝓣 .Λ) (fmOf 𝓤 H (W .laws) 𝓣) known)
 
 pub stepped-spec : {M : Type 1} → stated.statement M
