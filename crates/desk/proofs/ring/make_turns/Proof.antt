@@ -18,7 +18,7 @@ use Rattle.seat.specs.Step.{step}
 use Rattle.desk.specs.Answers.{foundOf, trueFrom}
 use Rattle.desk.specs.Marks.{marksOf}
 use Rattle.desk.specs.Room.{Room, roomOf, clinicAt, withClinic}
-use Rattle.desk.specs.Turn.{isAtWork, seatAfter}
+use Rattle.desk.specs.Turn.{isAtWork, turnFor}
 use Rattle.desk.proofs.ArrayLengths.{eight-seats, sixteen-each}
 use Rattle.desk.proofs.LentShare.{lent-length, lent-is, back-is}
 use Rattle.desk.proofs.Sound.{fits-sound}
@@ -184,15 +184,22 @@ module _ (p : tie.After-stepped Inv-loop μ-loop) where
   full : length share ≡ 4096
   full = p .stepped .kept .1 .0 ∙ lent-length (head .loop .board) (seat-of here) (head .loop .inv .sound .board-length) (seat-below here)
 
-  same : clinic ≡ step (catalogueOf (start-of head .args .sizes .now) (start-of head .args .rules .now)) (clinicAt (room (head .loop .seats) (head .loop .next) (head .loop .board)) (seat-of here))
+  abbrev catalogue : Catalogue
+  catalogue = catalogueOf (start-of head .args .sizes .now) (start-of head .args .rules .now)
+
+  abbrev before : Room
+  before = room (head .loop .seats) (head .loop .next) (head .loop .board)
+
+  same : clinic ≡ step catalogue (clinicAt before (seat-of here))
   same = rw (lent-is (head .loop .board) (seat-of here)) at (p .stepped .ensures)
 
   abbrev after : Bool → Type 0
   after mark =
-      Turning (catalogueOf (start-of head .args .sizes .now) (start-of head .args .rules .now)) (start-of head .args .w)
+      Turning catalogue (start-of head .args .w)
       (room (start-of head .args .desk .seats) (start-of head .args .desk .next) (start-of head .args .board .now)) (head .loop .made + 1)
       (set (marksOf (head .loop .working)) (seat-of here) mark)
-      (room (set (head .loop .seats) (seat-of here) (p .stepped .result)) (seatAfter (seat-of here)) (put (head .loop .board) (seat-of here * 4096) share))
+      (room (set (head .loop .seats) (seat-of here) (p .stepped .result)) (turnFor catalogue before (some (seat-of here)) .desk .next)
+      (put (head .loop .board) (seat-of here * 4096) share))
 
   turned-so : (mark : Bool) → isAtWork (p .stepped .result .state) ≡ mark → after mark
   unfolding withClinic
@@ -200,6 +207,7 @@ module _ (p : tie.After-stepped Inv-loop μ-loop) where
       rw is at (turn-made (head .loop .inv) (start-of head .pre .0 .1) (turn-left here) (seat-of here) (found here) clinic same)
 
 loop-again : tie.Need-loop-again Inv-loop μ-loop
+unfolding withClinic
 loop-again c =
     let p = c .before .before .before .before in
     let at-work : isAtWork (p .stepped .result .state) ≡ true = sym (c .before .is-at-work .ensures) ∙ c .if1 .taken in
@@ -213,6 +221,7 @@ loop-less-2 : tie.Need-loop-less-2 Inv-loop μ-loop
 loop-less-2 c = let l = turn-left (c .before .before .before .before .before .before .before .before .before .before .before) in search needs
 
 loop-again-2 : tie.Need-loop-again-2 Inv-loop μ-loop
+unfolding withClinic
 loop-again-2 c =
     let p = c .before .before .before .before .before in
     let idle : isAtWork (p .stepped .result .state) ≡ false =
