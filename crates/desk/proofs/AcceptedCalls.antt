@@ -12,11 +12,11 @@ use Rattle.catalogue.specs.Catalogue.{Catalogue, sizeOf}
 use Rattle.catalogue.specs.Fault.{faultOf, member}
 use Rattle.catalogue.proofs.Inversion.{orElse-zero, when-zero, when-not-zero}
 use Rattle.seat.specs.declared.Seat.{Seat}
+use Rattle.seat.specs.Look.{isClosed, isAtWork, hasChoice, isLeft}
 use Rattle.desk.specs.Room.{Room, seatAt}
 use Rattle.desk.specs.Fit.{deskFits}
 use Rattle.desk.specs.Call.{Call, seatOf, featureOf, optionOf}
-use Rattle.desk.specs.Turn.{isClosed, isAtWork}
-use Rattle.desk.specs.Refusal.{rowsFor, hasChoice, isLeft, row, refusal, openRefusal}
+use Rattle.desk.specs.Refusal.{rowsFor, row, refusal, openRefusal}
 
 -- where row number r is for a call
 abbrev pub RowFor : ℕ → Call → Type 0

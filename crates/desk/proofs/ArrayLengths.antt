@@ -12,18 +12,9 @@ use Rattle.seat.specs.declared.Seat.{Seat}
 use Rattle.seat.proofs.Seat as seat-type
 use Rattle.desk.specs.declared.Desk.{Desk}
 use Rattle.desk.proofs.Desk as desk-type
-use Rattle.desk.proofs.WithClinic.{noSeat}
-use Rattle.desk.proofs.Sound.{Sixteen}
-
-numbers : (xs : List ℕ) (n : ℕ) → length (map (λ (x : ℕ). x) xs) ≡ n → length xs ≡ n
-numbers xs n h = sym (length-map xs (λ (x : ℕ). x)) ∙ h
-
-one-seat : (seat : Seat) (value : List Val) → Is (seat-type.the-field .row) (seat-type.the-field .into seat) value → Sixteen seat
-one-seat seat value h = record {
-  all-choices = numbers (seat .choices) 16 (h .1 .1 .1 .0 .1 .0 .1);
-  all-masks = numbers (seat .masks) 16 (h .1 .1 .1 .1 .0 .1 .0 .1);
-  all-entries = numbers (seat .trial) 16 (h .1 .1 .1 .1 .1 .0 .1 .0 .1);
-}
+use Rattle.seat.specs.Clinic.{noSeat}
+use Rattle.seat.proofs.ClinicFits.{Sixteen}
+use Rattle.seat.proofs.ArrayLengths.{one-seat}
 
 each-seat : (seats : List Seat) (values : List Val)
     → shadow (each (seat-type.the-field .row .Denot) (seat-type.the-field .row .own) (map (seat-type.the-field .into) seats) values)

@@ -8,7 +8,7 @@ use Rattle.seat.specs.declared.Seat.{Seat}
 use Rattle.desk.specs.declared.Desk.{Desk}
 use Rattle.desk.specs.Answers.{trueFrom}
 use Rattle.desk.specs.Turn.{isAtWork, seatAfter, atWorkFrom}
-use Rattle.desk.proofs.WithClinic.{noSeat}
+use Rattle.seat.specs.Clinic.{noSeat}
 
 -- the marks of the seats
 abbrev pub marks : List Seat → List Bool

@@ -12,11 +12,11 @@ use Rattle.catalogue.specs.Checks.{when, orElse, first}
 use Rattle.catalogue.specs.Fault.{member}
 use Rattle.catalogue.proofs.Steps.{first-row}
 use Rattle.seat.specs.declared.Seat.{Seat}
+use Rattle.seat.specs.Look.{isClosed, isAtWork, hasChoice, isLeft}
 use Rattle.desk.specs.Room.{Room, seatAt}
 use Rattle.desk.specs.Fit.{deskFits}
 use Rattle.desk.specs.Call.{enter, leave, choose, relax, options, example, turns}
-use Rattle.desk.specs.Turn.{isClosed, isAtWork}
-use Rattle.desk.specs.Refusal.{openTable, openRefusal, refusal, hasChoice, isLeft}
+use Rattle.desk.specs.Refusal.{openTable, openRefusal, refusal}
 
 -- the checks of a whole table are those of its rows up to some row, and then those after it
 pub first-append : (rows more : List ℕ) → first (rows ++ more) ≡ orElse (first rows) (first more)

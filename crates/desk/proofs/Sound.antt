@@ -15,16 +15,16 @@ use borrow.Author.Tests.{leb-true, le-leb, eqb-true, eqb-false}
 use Rattle.catalogue.specs.Catalogue.{Catalogue}
 use Rattle.catalogue.specs.Fault.{faultOf}
 use Rattle.seat.specs.declared.Seat.{Seat}
-use Rattle.seat.specs.Clinic.{Clinic}
+use Rattle.seat.specs.Clinic.{Clinic, noSeat}
 use Rattle.seat.specs.Fit.{everyBelow, seatFits}
 use Rattle.seat.specs.Step.{step}
 use Rattle.seat.proofs.Fits.{every-below, below-every}
-use Rattle.seat.proofs.ClinicFits.{ClinicFits, closed-fits}
+use Rattle.seat.proofs.ClinicFits.{ClinicFits, Sixteen, record-fits, other-share, closed-fits}
 use Rattle.seat.proofs.StepFits.{step-fits}
 use Rattle.desk.specs.Room.{Room, seatAt, shareAt, clinicAt, withClinic, freshDesk, emptyBoard}
 use Rattle.desk.specs.Fit.{deskFits}
 use Rattle.desk.specs.Turn.{served, turnFor, turn, afterTurns}
-use Rattle.desk.proofs.WithClinic.{noSeat, share-length, fresh-clinic, with-eight, with-board-length}
+use Rattle.desk.proofs.WithClinic.{share-length, fresh-clinic, with-eight, with-board-length}
 use Rattle.desk.proofs.Served.{served-found}
 
 pub record Sound (catalogue : Catalogue) (room : Room) : Type 0 where
@@ -32,12 +32,6 @@ pub record Sound (catalogue : Catalogue) (room : Room) : Type 0 where
   pub board-length : length (room .board) ≡ 32768
   pub next-below : room .desk .next < 8
   pub clinics-fit : (c : ℕ) → c < 8 → ClinicFits catalogue (clinicAt room c)
-
--- sixteen choices, masks and trial entries
-pub record Sixteen (seat : Seat) : Type 0 where
-  pub all-choices : length (seat .choices) ≡ 16
-  pub all-masks : length (seat .masks) ≡ 16
-  pub all-entries : length (seat .trial) ≡ 16
 
 module _ (catalogue : Catalogue) (room : Room) where
   abbrev seatTest : ℕ → Bool
@@ -60,24 +54,10 @@ module _ (catalogue : Catalogue) (room : Room) where
         eight = eight;
         board-length = board-length;
         next-below = omega (arith, leb-true (room .desk .next) 7 (t .0));
-        clinics-fit = λ (c : ℕ) (l : c < 8). record {
-          all-choices = sixteen c l .all-choices;
-          all-masks = sixteen c l .all-masks;
-          all-entries = sixteen c l .all-entries;
-          all-bytes = share-length (room .board) board-length c l;
-          fits = every-below seatTest 8 (t .1) c l;
-        };
+        clinics-fit = λ (c : ℕ) (l : c < 8).
+            record-fits catalogue (seatAt (room .desk) c) (shareAt (room .board) c) (sixteen c l) (share-length (room .board) board-length c l)
+            (every-below seatTest 8 (t .1) c l);
       }
-
-  other-share : (clinic : Clinic) → ClinicFits catalogue clinic → (share : List ℕ) → length share ≡ 4096
-      → ClinicFits catalogue (record { seat = clinic .seat; share = share })
-  other-share clinic fits share full = record {
-    all-choices = fits .all-choices;
-    all-masks = fits .all-masks;
-    all-entries = fits .all-entries;
-    all-bytes = full;
-    fits = fits .fits;
-  }
 
   -- records that make clinics that fit, with any share of its length
   abbrev RecordsFit : List Seat → Type 0
@@ -86,7 +66,7 @@ module _ (catalogue : Catalogue) (room : Room) where
       → ClinicFits catalogue (record { seat = getD seats d noSeat; share = share })
 
   records-fit : Sound catalogue room → RecordsFit (room .desk .seats)
-  records-fit sound d k = other-share (clinicAt room d) (sound .clinics-fit d k)
+  records-fit sound d k = other-share catalogue (clinicAt room d) (sound .clinics-fit d k)
 
   with-record : (seats : List Seat) → length seats ≡ 8 → RecordsFit seats → (c : ℕ) → c < 8 → (clinic : Clinic)
       → ClinicFits catalogue clinic → RecordsFit (set seats c (clinic .seat))
@@ -96,7 +76,7 @@ module _ (catalogue : Catalogue) (room : Room) where
           → ClinicFits catalogue (record { seat = getD (set seats c (clinic .seat)) d noSeat; share = share })
       go true h =
           let same : d ≡ c = eqb-true d c h in
-          rw (same, getD-set-same seats c (clinic .seat) noSeat (omega arith)) (other-share clinic fits share full)
+          rw (same, getD-set-same seats c (clinic .seat) noSeat (omega arith)) (other-share catalogue clinic fits share full)
       go false h = rw (getD-set-other seats c d (clinic .seat) noSeat (eqb-false d c h)) (records d k share full)
 
   pub with-clinic-sound : Sound catalogue room → (c next : ℕ) → c < 8 → next < 8 → (clinic : Clinic)

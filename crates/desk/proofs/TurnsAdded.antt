@@ -12,7 +12,8 @@ use Rattle.desk.specs.Call.{turns}
 use Rattle.desk.specs.Turn.{turn, afterTurns}
 use Rattle.desk.specs.Refusal.{refusal}
 use Rattle.desk.specs.Perform.{Outcome, done, perform}
-use Rattle.desk.proofs.Sound.{Sound, Sixteen, fits-sound, turns-sound}
+use Rattle.seat.proofs.ClinicFits.{Sixteen}
+use Rattle.desk.proofs.Sound.{Sound, fits-sound, turns-sound}
 use Rattle.desk.proofs.ChecksPassed.{turns-accepted}
 use Rattle.desk.proofs.Performed.{perform-accepted, perform-refused}
 use Rattle.desk.proofs.AcceptedCalls.{accepted}

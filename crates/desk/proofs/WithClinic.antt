@@ -3,21 +3,15 @@
 use Prim.Native.Nat.{ℕ, _+_, _-_, _*_, _≤_, _<_}
 use mathlib.Core.Path.{_≡_, refl, ap, _∙_}
 use mathlib.Core.Bool.{Bool, true, false}
-use mathlib.Core.List.{List, []}
+use mathlib.Core.List.{List}
 use native.Mathlib.Omega.{arith}
 use lib.ListN.{length, take, drop, length-set, length-drop, getD-replicate}
 use lib.Seq.{length-take-le, getD-set-same, getD-set-other}
 use lib.Dec.{ltb}
 use borrow.Author.Tests.{ltb-true, ltb-false}
-use Rattle.seat.specs.declared.Seat.{Seat}
-use Rattle.seat.specs.declared.State.the-variants.{Closed}
-use Rattle.seat.specs.Clinic.{Clinic, closedSeat, closedClinic, emptyShare, put}
+use Rattle.seat.specs.Clinic.{Clinic, noSeat, closedSeat, closedClinic, emptyShare, put}
 use Rattle.seat.proofs.ExamplePlaces.{put-length, put-same, put-before, put-after, read-replicate}
 use Rattle.desk.specs.Room.{Room, seatAt, shareAt, clinicAt, withClinic, freshDesk, emptyBoard}
-
--- what is read at a number that is no seat's
-abbrev pub noSeat : Seat
-noSeat = record { state = Closed; choices = []; masks = []; trial = [] }
 
 pub share-length : (board : List ℕ) → length board ≡ 32768 → (c : ℕ) → c < 8 → length (shareAt board c) ≡ 4096
 unfolding shareAt

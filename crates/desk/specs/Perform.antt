@@ -2,9 +2,10 @@
 use Prim.Native.Nat.{ℕ, zero, suc}
 use mathlib.Core.Bool.{Bool, false}
 use mathlib.Core.List.{List, []}
-use lib.ListN.{getD, set}
+use lib.ListN.{set}
 use Rattle.catalogue.specs.Catalogue.{Catalogue, catalogueOf}
 use Rattle.seat.specs.Bits.{bitCount}
+use Rattle.seat.specs.Look.{maskOf}
 use Rattle.seat.specs.Clinic.{Clinic, closedClinic, exampleIn}
 use Rattle.seat.specs.Step.{posted}
 use Rattle.desk.specs.declared.Desk.{Desk}
@@ -44,7 +45,7 @@ done catalogue (enter c) room = changed c (posted (catalogue .sizes) (choicesOf 
 done catalogue (leave c) room = changed c closedClinic room
 done catalogue (choose c i a) room = choiceSet catalogue c i a room
 done catalogue (relax c i) room = choiceSet catalogue c i 255 room
-done catalogue (options c i) room = record { answer = optionsAnswer (getD (seatAt (room .desk) c .masks) i 0); room = room }
+done catalogue (options c i) room = record { answer = optionsAnswer (maskOf (seatAt (room .desk) c) i); room = room }
 done catalogue (example c i a) room = record { answer = exampleAnswer (exampleIn (shareAt (room .board) c) i a); room = room }
 done catalogue (turns w) room = record {
   answer = turnsAnswer (turnsMade catalogue w room) (isSome (served (afterTurns catalogue w room .desk)));

@@ -3,17 +3,16 @@
 use Prim.Native.Nat.{ℕ}
 use mathlib.Core.Bool.{Bool, not, _&&_}
 use mathlib.Core.List.{List, [], _∷_}
-use lib.ListN.{length, getD}
+use lib.ListN.{length}
 use lib.Dec.{ltb, eqb}
 use Rattle.catalogue.specs.Catalogue.{Catalogue, sizeOf}
 use Rattle.catalogue.specs.Checks.{when, first}
 use Rattle.catalogue.specs.Fault.{faultOf, member}
 use Rattle.seat.specs.declared.Seat.{Seat}
-use Rattle.seat.specs.Bits.{hasBit}
+use Rattle.seat.specs.Look.{isClosed, isAtWork, hasChoice, isLeft}
 use Rattle.desk.specs.Room.{Room, seatAt}
 use Rattle.desk.specs.Fit.{deskFits}
 use Rattle.desk.specs.Call.{Call, enter, leave, choose, relax, options, example, turns, seatOf, featureOf, optionOf}
-use Rattle.desk.specs.Turn.{isClosed, isAtWork}
 
 -- the rows from 30 on that are for a call; every call makes the checks above them
 abbrev pub rowsFor : Call → List ℕ
@@ -24,12 +23,6 @@ rowsFor (relax c i) = 30 ∷ 31 ∷ 33 ∷ 34 ∷ 38 ∷ []
 rowsFor (options c i) = 30 ∷ 31 ∷ 33 ∷ 34 ∷ []
 rowsFor (example c i a) = 30 ∷ 31 ∷ 33 ∷ 34 ∷ 35 ∷ 37 ∷ []
 rowsFor (turns w) = []
-
-abbrev pub hasChoice : Seat → ℕ → Bool
-hasChoice seat i = not (eqb (getD (seat .choices) i 255) 255)
-
-abbrev pub isLeft : Seat → ℕ → ℕ → Bool
-isLeft seat i a = hasBit (getD (seat .masks) i 0) a
 
 -- open makes checks 1 and 10 to 18 and nothing more
 abbrev pub openTable : Catalogue → List ℕ → List ℕ

@@ -1,10 +1,9 @@
 -- Desk and board as they are handed from call to call.
 use Prim.Native.Nat.{ℕ, _*_}
-use mathlib.Core.List.{List, []}
+use mathlib.Core.List.{List}
 use lib.ListN.{getD, take, drop, set, replicate}
 use Rattle.seat.specs.declared.Seat.{Seat}
-use Rattle.seat.specs.declared.State.the-variants.{Closed}
-use Rattle.seat.specs.Clinic.{Clinic, closedSeat, put}
+use Rattle.seat.specs.Clinic.{Clinic, noSeat, closedSeat, put}
 use Rattle.desk.specs.declared.Desk.{Desk}
 
 pub record Room : Type 0 where
@@ -16,7 +15,7 @@ roomOf desk board = record { desk = desk; board = board }
 
 -- seats are numbered 0 to 7; what is read at another number is of no account
 abbrev pub seatAt : Desk → ℕ → Seat
-seatAt desk c = getD (desk .seats) c (record { state = Closed; choices = []; masks = []; trial = [] })
+seatAt desk c = getD (desk .seats) c noSeat
 
 -- seat c owns the 4,096 bytes from c × 4,096
 unfoldable pub shareAt : List ℕ → ℕ → List ℕ

@@ -4,21 +4,10 @@ use mathlib.Core.Bool.{Bool, true, false, cond}
 use mathlib.Core.Option.{Option, none, some}
 use lib.Dec.{eqb}
 use Rattle.catalogue.specs.Catalogue.{Catalogue}
-use Rattle.seat.specs.declared.State.{State}
-use Rattle.seat.specs.declared.State.the-variants.{Closed, Ready, AtWork}
+pub use Rattle.seat.specs.Look.{isAtWork}
 use Rattle.seat.specs.Step.{step}
 use Rattle.desk.specs.declared.Desk.{Desk}
 use Rattle.desk.specs.Room.{Room, seatAt, clinicAt, withClinic}
-
-abbrev pub isClosed : State → Bool
-isClosed Closed = true
-isClosed Ready = false
-isClosed (AtWork p) = false
-
-abbrev pub isAtWork : State → Bool
-isAtWork Closed = false
-isAtWork Ready = false
-isAtWork (AtWork p) = true
 
 abbrev pub seatAfter : ℕ → ℕ
 seatAfter c = (c + 1) % 8

@@ -1,20 +1,20 @@
 // The table of refusal numbers, in its order. Of the board the checks ask the length alone.
 use crate::Desk;
-use seat::Seat;
-use seat::State;
+use seat::has_choice;
+use seat::is_at_work;
+use seat::is_closed;
+use seat::is_left;
 ghost use mathlib.Core.Path.{_≡_};
 ghost use mathlib.Core.List.{List};
 ghost use Prim.Native.Nat.{ℕ, _<_};
 ghost use lib.ListN.{length};
 ghost use Rattle.catalogue.specs.Catalogue.{catalogueOf};
 ghost use Rattle.catalogue.specs.Fault.{faultOf};
-ghost use Rattle.seat.specs.Bits.{hasBit};
 ghost use Rattle.desk.specs.Answers.{Refuses};
 ghost use Rattle.desk.specs.Call.{enter, leave, choose, relax, options, example, turns};
 ghost use Rattle.desk.specs.Fit.{deskFits};
-ghost use Rattle.desk.specs.Refusal.{openRefusal, refusal, hasChoice};
+ghost use Rattle.desk.specs.Refusal.{openRefusal, refusal};
 ghost use Rattle.desk.specs.Room.{roomOf};
-ghost use Rattle.desk.specs.Turn.{isClosed, isAtWork};
 
 // 1 and 10 to 18: what open checks.
 pub fn open_number(board_length: usize, sizes: &[u8], rules: &[u16]) -> u8
@@ -124,8 +124,7 @@ pub fn choose_number(
     if has_choice(seat, i) {
         return 36;
     }
-    let masks = seat.masks;
-    if is_left(masks[i], a) {
+    if is_left(seat, i, a) {
         return 0;
     }
     37
@@ -171,9 +170,7 @@ pub fn example_refusal(
         return 35;
     }
     let seats = desk.seats;
-    let seat = seats[c];
-    let masks = seat.masks;
-    if is_left(masks[i], a) {
+    if is_left(seats[c], i, a) {
         return 0;
     }
     37
@@ -197,45 +194,6 @@ fn desk_fits(desk: Desk, sizes: &[u8], rules: &[u16]) -> bool
         c += 1;
     }
     true
-}
-
-pub fn is_closed(seat: Seat) -> bool
-    ensures { λ r. ⌜ r ≡ isClosed (seat .state) ⌝ }
-{
-    let state = seat.state;
-    match state {
-        State::Closed => true,
-        State::Ready => false,
-        State::AtWork(_) => false,
-    }
-}
-
-pub fn is_at_work(seat: Seat) -> bool
-    ensures { λ r. ⌜ r ≡ isAtWork (seat .state) ⌝ }
-{
-    let state = seat.state;
-    match state {
-        State::Closed => false,
-        State::Ready => false,
-        State::AtWork(_) => true,
-    }
-}
-
-// Whether a feature, below 16, has a choice.
-fn has_choice(seat: Seat, i: usize) -> bool
-    requires { ⌜ i < 16 ⌝ }
-    ensures { λ r. ⌜ r ≡ hasChoice seat i ⌝ }
-{
-    let choices = seat.choices;
-    choices[i] != 255
-}
-
-// Whether an option, below 16, is left.
-fn is_left(mask: u16, a: usize) -> bool
-    requires { ⌜ a < 16 ⌝ }
-    ensures { λ r. ⌜ r ≡ hasBit mask a ⌝ }
-{
-    (mask >> a) % 2 == 1
 }
 
 fn byte(x: u8) -> usize

@@ -24,9 +24,7 @@ pub fn options(desk: Desk, board: &[u8], sizes: &[u8], rules: &[u16], c: usize, 
         };
     }
     let seats = desk.seats;
-    let seat = seats[c];
-    let masks = seat.masks;
-    let mask = masks[i];
+    let mask = seat::mask_of(seats[c], i);
     Left {
         number: 0,
         mask,

@@ -1,9 +1,9 @@
 // Turns: the ring gives one waiting seat one step.
 use crate::Desk;
 use crate::answers::Turned;
-use crate::checks::is_at_work;
 use crate::checks::turns_number;
 use seat::Seat;
+use seat::is_at_work;
 ghost use mathlib.Core.Path.{_≡_};
 ghost use mathlib.Core.Bool.{true};
 ghost use mathlib.Core.List.{map};

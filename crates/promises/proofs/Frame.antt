@@ -6,7 +6,8 @@ use mathlib.Core.Bool.{true}
 use Rattle.catalogue.specs.Catalogue.{Catalogue}
 use Rattle.desk.specs.Room.{Room, seatAt}
 use Rattle.desk.specs.Fit.{deskFits}
-use Rattle.desk.proofs.Sound.{Sound, Sixteen, fits-sound}
+use Rattle.seat.proofs.ClinicFits.{Sixteen}
+use Rattle.desk.proofs.Sound.{Sound, fits-sound}
 use Rattle.desk.proofs.OthersStay.{call-stays, turn-steps, turn-stays, turn-next}
 use Rattle.desk.proofs.TurnsAdded.{turns-added}
 use Rattle.promises.specs.Frame.{Whole, Frame}

@@ -12,12 +12,12 @@ use Rattle.catalogue.specs.Every.{Every, none, also}
 use Rattle.catalogue.specs.Checks.{when, first}
 use Rattle.catalogue.specs.Fault.{member}
 use Rattle.seat.specs.declared.Seat.{Seat}
+use Rattle.seat.specs.Look.{isClosed, isAtWork, hasChoice, isLeft}
 use Rattle.seat.specs.Count.{jobSteps}
 use Rattle.seat.proofs.ReadyJob.{job-ready-after}
 use Rattle.desk.specs.Room.{Room}
 use Rattle.desk.specs.Call.{Call, seatOf, featureOf, optionOf}
-use Rattle.desk.specs.Turn.{isClosed, isAtWork}
-use Rattle.desk.specs.Refusal.{rowsFor, row, hasChoice, isLeft}
+use Rattle.desk.specs.Refusal.{rowsFor, row}
 use Rattle.desk.specs.Perform.{perform}
 use Rattle.desk.proofs.ChecksPassed.{checks-passed}
 use Rattle.desk.proofs.Performed.{perform-number}

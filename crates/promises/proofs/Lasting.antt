@@ -14,14 +14,15 @@ use Rattle.catalogue.specs.Catalogue.{Catalogue}
 use Rattle.catalogue.specs.Fault.{faultOf, member}
 use Rattle.seat.specs.declared.State.{State}
 use Rattle.seat.specs.declared.State.the-variants.{Closed, Ready, AtWork}
+use Rattle.seat.specs.Look.{isClosed, isAtWork, isLeft}
 use Rattle.seat.specs.Clinic.{Clinic, closedClinic}
 use Rattle.seat.specs.Step.{step, posted}
 use Rattle.seat.proofs.ClinicFits.{ClinicFits}
 use Rattle.seat.proofs.StepFits.{step-fits}
 use Rattle.desk.specs.Room.{Room, clinicAt, withClinic}
 use Rattle.desk.specs.Call.{Call, enter, leave, choose, relax, options, example, turns}
-use Rattle.desk.specs.Turn.{isClosed, isAtWork, seatAfter, served, turnFor, turn, afterTurns}
-use Rattle.desk.specs.Refusal.{isLeft, refusal}
+use Rattle.desk.specs.Turn.{seatAfter, served, turnFor, turn, afterTurns}
+use Rattle.desk.specs.Refusal.{refusal}
 use Rattle.desk.specs.Perform.{choicesOf, done, perform, opening}
 use Rattle.desk.specs.Run.{afterCalls}
 use Rattle.desk.proofs.WithClinic.{fresh-clinic, with-same, with-other}

@@ -16,13 +16,14 @@ use Rattle.catalogue.specs.Rule.{optionAt}
 use Rattle.catalogue.specs.Gic.{Gic}
 use Rattle.seat.specs.declared.State.the-variants.{Ready}
 use Rattle.seat.specs.Bits.{hasBit}
+use Rattle.seat.specs.Look.{isLeft}
 use Rattle.seat.specs.Clinic.{Clinic, exampleIn}
 use Rattle.seat.proofs.Fitting.{ChoicesFit}
 use Rattle.seat.proofs.PlaceBounds.{few-features, size-within}
 use Rattle.seat.proofs.ReadyJob as ready-job
 use Rattle.desk.specs.Room.{Room, shareAt, clinicAt}
 use Rattle.desk.specs.Call.{Call, options, example, refused, Answer}
-use Rattle.desk.specs.Refusal.{isLeft, refusal}
+use Rattle.desk.specs.Refusal.{refusal}
 use Rattle.desk.specs.Perform.{Outcome, optionsAnswer, exampleAnswer, done, perform, opening}
 use Rattle.desk.proofs.Sound.{Sound}
 use Rattle.desk.proofs.ChecksPassed.{checks-passed}

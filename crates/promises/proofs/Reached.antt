@@ -15,6 +15,7 @@ use Rattle.catalogue.specs.Fault.{faultOf}
 use Rattle.catalogue.proofs.Faultless.{fault-zero}
 use Rattle.seat.specs.declared.State.the-variants.{Closed, Ready}
 use Rattle.seat.specs.Bits.{hasBit}
+use Rattle.seat.specs.Look.{isLeft}
 use Rattle.seat.specs.Clinic.{Clinic, closedClinic}
 use Rattle.seat.specs.Step.{step, steps, posted}
 use Rattle.seat.specs.Count.{jobSteps}
@@ -26,7 +27,6 @@ use Rattle.seat.proofs.ReadyOnce.{ready-stays}
 use Rattle.seat.proofs.ReadyJob.{ended, maskAt, job-ready-after, left-exactly}
 use Rattle.desk.specs.Room.{clinicAt}
 use Rattle.desk.specs.Call.{Call}
-use Rattle.desk.specs.Refusal.{isLeft}
 use Rattle.promises.specs.Moment.{moment, Opened}
 use Rattle.promises.proofs.SoundMoments.{opened-faultless}
 use Rattle.promises.proofs.KeptChoices.{Kept, no-choice, by-build, kept-fit, build-set, kept-dropped}

@@ -17,7 +17,7 @@ use Rattle.desk.specs.Call.{Call, seatOf}
 use Rattle.desk.specs.Refusal.{table, refusal, openRefusal}
 use Rattle.desk.specs.Perform.{Outcome, perform, opening}
 use Rattle.desk.specs.Run.{afterCalls}
-use Rattle.desk.proofs.WithClinic.{noSeat}
+use Rattle.seat.specs.Clinic.{noSeat}
 use Rattle.desk.proofs.Performed.{perform-number, perform-refused, opening-number, opening-refused}
 use Rattle.promises.specs.Moment.{moment, Opened, seatIn}
 

@@ -18,7 +18,7 @@ use Rattle.seat.specs.declared.Place.{Place}
 use Rattle.seat.specs.declared.State.{State}
 use Rattle.seat.specs.declared.State.the-variants.{Ready, AtWork}
 use Rattle.seat.specs.Bits.{withBit}
-use Rattle.seat.specs.Clinic.{Clinic, closedSeat, closedClinic, withExample, moved}
+use Rattle.seat.specs.Clinic.{Clinic, clinicOf, closedSeat, closedClinic, withExample, moved}
 use Rattle.seat.specs.Fit.{depthOf, seatFits}
 use Rattle.seat.proofs.Bits.{with-bit-below}
 use Rattle.seat.proofs.Fits.{PlaceFits, StateFits, seat-fits, fits-seat}
@@ -33,6 +33,33 @@ pub record ClinicFits (catalogue : Catalogue) (clinic : Clinic) : Type 0 where
   pub all-entries : length (clinic .seat .trial) ≡ 16
   pub all-bytes : length (clinic .share) ≡ 4096
   pub fits : seatFits catalogue (clinic .seat) ≡ true
+
+-- what the type of a record tells of it: sixteen choices, masks and trial entries
+pub record Sixteen (seat : Seat) : Type 0 where
+  pub all-choices : length (seat .choices) ≡ 16
+  pub all-masks : length (seat .masks) ≡ 16
+  pub all-entries : length (seat .trial) ≡ 16
+
+pub record-fits : (catalogue : Catalogue) (seat : Seat) (share : List ℕ) → Sixteen seat → length share ≡ 4096
+    → seatFits catalogue seat ≡ true → ClinicFits catalogue (clinicOf seat share)
+record-fits catalogue seat share sixteen full fits = record {
+  all-choices = sixteen .all-choices;
+  all-masks = sixteen .all-masks;
+  all-entries = sixteen .all-entries;
+  all-bytes = full;
+  fits = fits;
+}
+
+-- a fitting clinic's record fits with any other share
+pub other-share : (catalogue : Catalogue) (clinic : Clinic) → ClinicFits catalogue clinic → (share : List ℕ) → length share ≡ 4096
+    → ClinicFits catalogue (clinicOf (clinic .seat) share)
+other-share catalogue clinic fits share full = record {
+  all-choices = fits .all-choices;
+  all-masks = fits .all-masks;
+  all-entries = fits .all-entries;
+  all-bytes = full;
+  fits = fits .fits;
+}
 
 -- what a clinic holds in every state: choices, masks and share
 pub record HoldingFits (catalogue : Catalogue) (clinic : Clinic) : Type 0 where

@@ -3,7 +3,7 @@
 --   FirstBuild: one pair's search finds the first build in dictionary order that has the option, or there is none
 --   JobSteps: a job is at its end after just K steps, and at work before
 --   JobResult: what masks and share hold then
--- LentState is apart: what the walks of the functions that lend a state share.
+-- LentRecord is apart: what the walks of the functions that lend a record share.
 pub mod Bits
 pub mod NoBits
 pub mod Fits
@@ -20,6 +20,7 @@ pub mod GivenUp
 pub mod GoingBack
 pub mod TrialFits
 pub mod ClinicFits
+pub mod ArrayLengths
 pub mod StepFits
 pub mod StepWrites
 pub mod SearchSteps

@@ -1,6 +1,6 @@
 -- What is one clinic's own: its seat's record and its share of the board, 4,096 bytes.
 use Prim.Native.Nat.{ℕ, _+_, _*_}
-use mathlib.Core.List.{List, _++_}
+use mathlib.Core.List.{List, [], _++_}
 use lib.ListN.{length, getD, take, drop, set, replicate}
 use Rattle.seat.specs.declared.Seat.{Seat}
 use Rattle.seat.specs.declared.State.{State}
@@ -14,6 +14,10 @@ pub record Clinic : Type 0 where
 -- a clinic, of its two parts
 abbrev pub clinicOf : Seat → List ℕ → Clinic
 clinicOf seat share = record { seat = seat; share = share }
+
+-- what is read past the last of some records; of no account
+abbrev pub noSeat : Seat
+noSeat = record { state = Closed; choices = []; masks = []; trial = [] }
 
 -- no choices, no options placed; no options left; a share that holds nothing
 abbrev pub nothing16 : List ℕ

@@ -1,5 +1,6 @@
 -- What a reader of this crate must believe, lowest first; `Ways` is for the code alone.
 pub mod Bits
+pub mod Look
 pub mod Clinic
 pub mod Candidates
 pub mod Step

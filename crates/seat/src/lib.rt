@@ -3,6 +3,7 @@ mod candidates;
 mod fit;
 mod job;
 mod lent;
+mod look;
 mod search;
 mod share;
 
@@ -13,6 +14,11 @@ pub use job::closed;
 pub use job::enter;
 pub use job::relax;
 pub use lent::step_in;
+pub use look::has_choice;
+pub use look::is_at_work;
+pub use look::is_closed;
+pub use look::is_left;
+pub use look::mask_of;
 pub use search::edge;
 pub use share::empty;
 

@@ -58,22 +58,18 @@ returns-3 c board same =
     decided-by (choose-adds _ _ _ _ _) (ready .before .options-number .ensures board same) (ready .if1 .left)
     (rw (lt-ltb _ _ (option-below sized), sym (c .before .has-choice .ensures) ∙ c .if3 .taken) refl)
 
-abbrev sized-at : tie.After-masks → tie.Else2
-sized-at c = c .before .before .before .before .before
-
-mul-is-left : tie.Need-mul-is-left
-mul-is-left c = let b = bounds (sized-at c .before .before .before) in omega arith
-
-array-read-is-left : tie.Need-array-read-is-left
-array-read-is-left c = bounds (sized-at c .before .before .before) .feature-below-16
+abbrev sized-at : tie.Else3 → tie.Else2
+sized-at c = c .before .before .before .before
 
 is-left-requires : tie.Need-is-left-requires
-is-left-requires c κs = let b = bounds (sized-at c .before .before .before) in omega (arith, option-below (sized-at c))
+is-left-requires c κs =
+    let b = bounds (sized-at c .before .before .before) in
+    (b .feature-below-16, omega (arith, option-below (sized-at c)))
 
 returns-4 : tie.Need-returns-4
 returns-4 c board same =
-    let free = c .before .before .before in
-    let sized = sized-at (c .before .before) in
+    let free = c .before .before in
+    let sized = sized-at free in
     let ready = sized .before .before .before in
     decided-by (choose-adds _ _ _ _ _) (ready .before .options-number .ensures board same) (ready .if1 .left)
     (rw (
@@ -84,8 +80,8 @@ returns-4 c board same =
 
 returns-5 : tie.Need-returns-5
 returns-5 c board same =
-    let free = c .before .before .before in
-    let sized = sized-at (c .before .before) in
+    let free = c .before .before in
+    let sized = sized-at free in
     let ready = sized .before .before .before in
     decided-by (choose-adds _ _ _ _ _) (ready .before .options-number .ensures board same) (ready .if1 .left)
     (rw (
@@ -107,8 +103,6 @@ choose-number-spec =
     array-copy-out-seat
     has-choice-requires
     returns-3
-    mul-is-left
-    array-read-is-left
     is-left-requires
     returns-4
     returns-5)

@@ -42,34 +42,28 @@ returns-2 c board same =
 option-below : (c : tie.Else2) → let a = c .before .before .before .before .before .before .before .args in a .a < getD (a .sizes .now) (a .i) 0
 option-below c = rw (c .before .byte .ensures .0) at (c .if2 .left)
 
-mul-seat : tie.Need-mul-seat
-mul-seat c = let b = bounds (c .before .before .before .before) in omega arith
-
-array-copy-out-seat : tie.Need-array-copy-out-seat
-array-copy-out-seat c = bounds (c .before .before .before .before) .seat-below
-
-abbrev sized-at : tie.After-masks → tie.Else2
-sized-at c = c .before .before .before
-
 mul-is-left : tie.Need-mul-is-left
-mul-is-left c = let b = bounds (sized-at c .before .before .before) in omega arith
+mul-is-left c = let b = bounds (c .before .before .before .before) in omega arith
 
-array-read-is-left : tie.Need-array-read-is-left
-array-read-is-left c = bounds (sized-at c .before .before .before) .feature-below-16
+array-copy-out-is-left : tie.Need-array-copy-out-is-left
+array-copy-out-is-left c = bounds (c .before .before .before .before) .seat-below
 
 is-left-requires : tie.Need-is-left-requires
-is-left-requires c κs = let b = bounds (sized-at c .before .before .before) in omega (arith, option-below (sized-at c))
+is-left-requires c κs =
+    let sized = c .before .before in
+    let b = bounds (sized .before .before .before) in
+    (b .feature-below-16, omega (arith, option-below sized))
 
 returns-3 : tie.Need-returns-3
 returns-3 c board same =
-    let sized = sized-at (c .before .before) in
+    let sized = c .before .before .before .before in
     let ready = sized .before .before .before in
     decided-by (example-adds _ _ _ _ _) (ready .before .options-number .ensures board same) (ready .if1 .left)
     (rw (lt-ltb _ _ (option-below sized), sym (c .before .is-left .ensures) ∙ c .if3 .taken) refl)
 
 returns-4 : tie.Need-returns-4
 returns-4 c board same =
-    let sized = sized-at (c .before .before) in
+    let sized = c .before .before .before .before in
     let ready = sized .before .before .before in
     decided-by (example-adds _ _ _ _ _) (ready .before .options-number .ensures board same) (ready .if1 .left)
     (rw (lt-ltb _ _ (option-below sized), sym (c .before .is-left .ensures) ∙ c .if3 .left) refl)
@@ -83,10 +77,8 @@ example-refusal-spec =
     shared-slice-read-byte
     byte-requires
     returns-2
-    mul-seat
-    array-copy-out-seat
     mul-is-left
-    array-read-is-left
+    array-copy-out-is-left
     is-left-requires
     returns-3
     returns-4)

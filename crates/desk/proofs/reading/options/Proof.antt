@@ -3,8 +3,8 @@
 use mathlib.Core.Path.{_≡_, refl, sym, _∙_}
 use native.Mathlib.Omega.{arith}
 use borrow.Author.Needs.{needs}
-use lib.ListN.{getD}
 use Rattle.catalogue.specs.Fault.{member}
+use Rattle.seat.specs.Look.{maskOf}
 use Rattle.seat.proofs.Bits.{bit-count}
 use Rattle.desk.specs.Room.{seatAt}
 use Rattle.desk.specs.Call.{options}
@@ -35,17 +35,14 @@ bounds : (c : tie.Else1) → let a = c .before .before .before .before .before .
 unfolding member
 bounds c = feature-bounds (accepted _ _ _ (not-refused c)) refl refl
 
-mul-seat : tie.Need-mul-seat
-mul-seat c = let b = bounds (c .before) in omega arith
+mul-mask-of : tie.Need-mul-mask-of
+mul-mask-of c = let b = bounds (c .before) in omega arith
 
-array-copy-out-seat : tie.Need-array-copy-out-seat
-array-copy-out-seat c = bounds (c .before) .seat-below
+array-copy-out-mask-of : tie.Need-array-copy-out-mask-of
+array-copy-out-mask-of c = bounds (c .before) .seat-below
 
-mul-mask : tie.Need-mul-mask
-mul-mask c = let b = bounds (c .before .before .before) in omega arith
-
-array-read-mask : tie.Need-array-read-mask
-array-read-mask c = bounds (c .before .before .before) .feature-below-16
+mask-of-requires : tie.Need-mask-of-requires
+mask-of-requires c κs = let b = bounds (c .before .before) in omega arith
 
 returns-2 : tie.Need-returns-2
 unfolding done
@@ -54,7 +51,7 @@ returns-2 c =
     let a = ready .before .before .before .before .before .args in
     let none = not-refused ready in
     let small = mask-of-16-bits _ (a .desk) (accepted _ _ _ none .desk-fits) (bounds ready) in
-    rw (← bit-count (getD (seatAt (a .desk) (a .c) .masks) (a .i) 0) small) (sym (perform-accepted _ _ _ none))
+    rw (c .mask-of .ensures, ← bit-count (maskOf (seatAt (a .desk) (a .c)) (a .i)) small) (sym (perform-accepted _ _ _ none))
 
 pub options-spec : {M : Type 1} → statement M
 options-spec =
@@ -62,8 +59,7 @@ options-spec =
     (tie.spec
     options-number-requires
     returns
-    mul-seat
-    array-copy-out-seat
-    mul-mask
-    array-read-mask
+    mul-mask-of
+    array-copy-out-mask-of
+    mask-of-requires
     returns-2)

@@ -11,7 +11,7 @@ use lib.Seq.{take-all, take-suc, take-suc-set}
 use Rattle.seat.specs.declared.Seat.{Seat}
 use Rattle.desk.specs.Turn.{isAtWork}
 use Rattle.desk.specs.Marks.{marksOf}
-use Rattle.desk.proofs.WithClinic.{noSeat}
+use Rattle.seat.specs.Clinic.{noSeat}
 use Rattle.desk.proofs.FirstAtWork.{marks, mark-at}
 use Rattle.desk.proofs.Marks.{eight-in}
 use Rattle.desk.proofs.ring.seats_at_work.Statement.{statement}

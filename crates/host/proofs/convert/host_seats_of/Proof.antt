@@ -5,7 +5,7 @@ use mathlib.Core.List.{map}
 use native.Mathlib.Omega.{arith}
 use borrow.Author.Needs.{needs}
 use lib.ListN.{length, take, length-set}
-use Rattle.desk.proofs.WithClinic.{noSeat}
+use Rattle.seat.specs.Clinic.{noSeat}
 use Rattle.host.specs.Records.{hostSeatOf}
 use Rattle.seat.proofs.Filled.{one-more, all-made}
 use Rattle.host.proofs.convert.host_seats_of.Statement.{statement}

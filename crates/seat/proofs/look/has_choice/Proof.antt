@@ -3,8 +3,8 @@ use mathlib.Core.Path.{_≡_}
 use lib.ListN.{length}
 use borrow.Author.Needs.{needs}
 use Rattle.catalogue.proofs.PlacedSteps.{getD-within}
-use Rattle.desk.proofs.checks.has_choice.Statement.{statement}
-use Rattle.desk.proofs.checks.has_choice.Tie as tie
+use Rattle.seat.proofs.look.has_choice.Statement.{statement}
+use Rattle.seat.proofs.look.has_choice.Tie as tie
 
 choices-long : (c : tie.Start) → length (c .args .seat .choices) ≡ 16
 choices-long c = search needs

@@ -1,0 +1,55 @@
+// What others look up in a seat's record. Features and options are below 16.
+use crate::Seat;
+use crate::State;
+ghost use mathlib.Core.Path.{_≡_};
+ghost use Prim.Native.Nat.{_<_};
+ghost use Rattle.seat.specs.Look.{isClosed, isAtWork, hasChoice, maskOf, isLeft};
+
+pub fn is_closed(seat: Seat) -> bool
+    ensures { λ r. ⌜ r ≡ isClosed (seat .state) ⌝ }
+{
+    let state = seat.state;
+    match state {
+        State::Closed => true,
+        State::Ready => false,
+        State::AtWork(_) => false,
+    }
+}
+
+pub fn is_at_work(seat: Seat) -> bool
+    ensures { λ r. ⌜ r ≡ isAtWork (seat .state) ⌝ }
+{
+    let state = seat.state;
+    match state {
+        State::Closed => false,
+        State::Ready => false,
+        State::AtWork(_) => true,
+    }
+}
+
+// Whether a feature has a choice.
+pub fn has_choice(seat: Seat, i: usize) -> bool
+    requires { ⌜ i < 16 ⌝ }
+    ensures { λ r. ⌜ r ≡ hasChoice seat i ⌝ }
+{
+    let choices = seat.choices;
+    choices[i] != 255
+}
+
+// The options left of a feature.
+pub fn mask_of(seat: Seat, i: usize) -> u16
+    requires { ⌜ i < 16 ⌝ }
+    ensures { λ r. ⌜ r ≡ maskOf seat i ⌝ }
+{
+    let masks = seat.masks;
+    masks[i]
+}
+
+// Whether an option of a feature is left.
+pub fn is_left(seat: Seat, i: usize, a: usize) -> bool
+    requires { ⌜ (i < 16) × (a < 16) ⌝ }
+    ensures { λ r. ⌜ r ≡ isLeft seat i a ⌝ }
+{
+    let masks = seat.masks;
+    (masks[i] >> a) % 2 == 1
+}
