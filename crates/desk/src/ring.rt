@@ -69,8 +69,9 @@ fn make_turns(desk: Desk, board: &mut [u8], sizes: &[u8], rules: &[u16], w: u16)
         let from = c * 4096;
         let share = &mut board[from..from + 4096];
         let seat = stepped(seats[c], share, sizes, rules, &places, &counts, &edge);
+        let after = (c + 1) % 8;
         seats[c] = seat;
-        next = ((c + 1) % 8) as u8;
+        next = after as u8;
         made += 1;
         if is_at_work(seat) {
             continue;
@@ -83,7 +84,12 @@ fn make_turns(desk: Desk, board: &mut [u8], sizes: &[u8], rules: &[u16], w: u16)
 // The answer of an accepted call.
 fn turned(made: u16, marks: u8, desk: Desk) -> Turned
     requires { ⌜ desk .next < 8 ⌝ }
-    ensures { λ r. ⌜ r ≡ record { number = 0; made = made; working = isSome (trueFrom 8 (marksOf marks) (desk .next)); desk = desk } ⌝ }
+    ensures { λ r. ⌜ r ≡ record {
+      number = 0;
+      made = made;
+      working = isSome (trueFrom 8 (marksOf marks) (desk .next));
+      desk = desk;
+    } ⌝ }
 {
     let found = first_at_work(marks, desk.next as usize);
     Turned {

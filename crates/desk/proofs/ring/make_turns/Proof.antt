@@ -144,14 +144,14 @@ stepped-requires c κs =
       the-edge = head .before .before .before .edge .ensures;
     }
 
+add-after : tie.Need-add-after Inv-loop μ-loop
+add-after c = let l = seat-below (c .before .before .before .before .before .before .before .before) in search needs
+
 mul-seats : tie.Need-mul-seats Inv-loop μ-loop
 mul-seats c = let l = seat-below (c .before .before .before .before .before .before .before .before) in search needs
 
 array-set-from-seats : tie.Need-array-set-from-seats Inv-loop μ-loop
-array-set-from-seats c = seat-below (c .before .before .before .before .before .before .before .before)
-
-add-next : tie.Need-add-next Inv-loop μ-loop
-add-next c = let l = seat-below (c .before .before .before .before .before .before .before .before) in search needs
+array-set-from-seats c = let l = seat-below (c .before .before .before .before .before .before .before .before) in search needs
 
 cast-next : tie.Need-cast-next Inv-loop μ-loop
 cast-next c = search needs
@@ -271,9 +271,9 @@ make-turns-spec =
     slice-aggregate-stepped-2
     slice-aggregate-stepped-3
     stepped-requires
+    add-after
     mul-seats
     array-set-from-seats
-    add-next
     cast-next
     add-made
     is-at-work-requires
