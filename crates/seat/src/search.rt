@@ -16,8 +16,8 @@ ghost use Rattle.seat.specs.declared.State.the-variants.{AtWork};
 ghost use Rattle.seat.specs.Candidates.{chosenOtherwise};
 ghost use Rattle.seat.specs.Clinic.{clinicOf};
 ghost use Rattle.seat.specs.Step.{givenUp, tried, started, afterPair, stepAt};
-ghost use Rattle.seat.specs.Ways.{keptBefore, PlacedAt, triedOf, depthIn, edgeBytes, StepNeeds, Stepped, TryNeeds};
-ghost use Rattle.seat.specs.Ways.{masksWith, seatAfter};
+ghost use Rattle.seat.specs.Ways.{keptBefore, PlacedAt, triedOf, depthIn, edgeBytes};
+ghost use Rattle.seat.specs.Ways.{StepNeeds, Stepped, TryNeeds, masksWith, seatAfter};
 
 // What comes of trying an option.
 pub enum Way {
@@ -56,8 +56,8 @@ pub fn step(
     }
 }
 
-// The record is only read, and each array of the new one is made whole, so that it is held in registers from one to the
-// other; what is placed is copied for the test alone, which looks it up by feature.
+// The record is only read, and each array of the new one is made whole: so both are held in registers. What is placed is
+// copied for the test alone, which looks options up by feature.
 fn step_at(
     seat: Seat,
     place: Place,

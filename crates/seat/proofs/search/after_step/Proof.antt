@@ -75,16 +75,16 @@ enum-known-way c = search needs
 
 -- the step, by the way that trying the option comes to
 tried-so : (c : tie.After-try-next) → let start = c .before .before .before .before .before .before .before .before .before .before in
-    (seat : Seat) (share : List ℕ) → seat .choices ≡ start .args .choices .now
+    (seat : Seat) → seat .choices ≡ start .args .choices .now
     → seat .trial ≡ keptBefore (start .args .place .depth) (start .args .placed .now)
-    → stepAt (catalogue start) (start .args .place) (clinicOf seat share)
-    ≡ afterTried (start .args .sizes .now) (start .args .place .feature) (start .args .place .option) (clinicOf seat share)
-    (triedOf (c .try-next .result) (start .args .placed .now))
-tried-so c =
+    → stepAt (catalogue start) (start .args .place) (clinicOf seat (start .args .share .now))
+    ≡ afterTried (start .args .sizes .now) (start .args .place .feature) (start .args .place .option)
+    (clinicOf seat (start .args .share .now)) (triedOf (c .try-next .result) (start .args .placed .now))
+tried-so c seat =
     let start = c .before .before .before .before .before .before .before .before .before .before in
     let free : otherwise start ≡ false = sym (c .before .before .chosen-otherwise .ensures) ∙ c .before .if1 .left in
     step-tries (catalogue start) (start .args .place) (start .args .choices .now) (start .args .placed .now) (c .try-next .result) free
-    (c .try-next .ensures .1)
+    (c .try-next .ensures .1) seat (start .args .share .now)
 
 enum-told : tie.Need-enum-told
 enum-told c = search needs
@@ -126,7 +126,7 @@ returns-2 c =
     let attempt = c .before .before .before in
     let goes-on = c .before .way .given .1 in (
       rw goes-on at (attempt .try-next .ensures .0),
-      λ (seat : Seat) chosen-so trial-so. sym (rw goes-on at (tried-so attempt seat (attempt .before .before .before .before .before .before .before .before .before .before .args .share .now) chosen-so trial-so)),
+      λ (seat : Seat) chosen-so trial-so. sym (rw goes-on at (tried-so attempt seat chosen-so trial-so)),
     )
 
 same-length : tie.Need-same-length
@@ -140,7 +140,7 @@ returns-3 c =
       rw (c .pair-ended2 .ensures) (omega arith),
       λ (seat : Seat) chosen-so trial-so.
           rw (c .pair-ended2 .ensures, c .before .before .before .write-example .ensures, ← chosen-so)
-          (sym (rw found at (tried-so attempt seat (attempt .before .before .before .before .before .before .before .before .before .before .args .share .now) chosen-so trial-so))),
+          (sym (rw found at (tried-so attempt seat chosen-so trial-so))),
     )
 
 returns-4 : tie.Need-returns-4
@@ -150,7 +150,7 @@ returns-4 c =
     let none = c .before .enum-told2 .given .1 in (
       rw (c .pair-ended3 .ensures) (omega arith),
       λ (seat : Seat) chosen-so trial-so.
-          rw (c .pair-ended3 .ensures, ← chosen-so) (sym (rw none at (tried-so attempt seat (attempt .before .before .before .before .before .before .before .before .before .before .args .share .now) chosen-so trial-so))),
+          rw (c .pair-ended3 .ensures, ← chosen-so) (sym (rw none at (tried-so attempt seat chosen-so trial-so))),
     )
 
 pub after-step-spec : {M : Type 1} → statement M
