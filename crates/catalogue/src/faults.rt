@@ -5,7 +5,8 @@ ghost use mathlib.Core.Path.{_≡_};
 ghost use mathlib.Core.List.{[]};
 ghost use Prim.Native.Nat.{_≤_, _*_};
 ghost use lib.ListN.{length};
-ghost use Rattle.catalogue.specs.Fault.{sizesFault, member, featuresFault, rowFits, rowsFault, ruleFault, rulesFault, faultOf};
+ghost use Rattle.catalogue.specs.Fault.{sizesFault, member, featuresFault, rowFits, rowsFault};
+ghost use Rattle.catalogue.specs.Fault.{ruleFault, rulesFault, faultOf};
 ghost use Rattle.catalogue.specs.Catalogue.{arity, width};
 
 // 10 to 18, or 0 for none.

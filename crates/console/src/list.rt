@@ -12,7 +12,6 @@ use crate::refusal::refused;
 use crate::words::between;
 use desk::Desk;
 use seat::Seat;
-use seat::State;
 
 pub fn list(desk: Desk, board: &[u8], sizes: &[u8], rules: &[u16], seat: u32) {
     let first = left(desk, board, sizes, rules, seat, 0);
@@ -87,9 +86,7 @@ fn has_choice(desk: Desk, asked: Asked) -> bool {
         return false;
     }
     let seats = desk.seats;
-    let seat = seats[c];
-    let choices = seat.choices;
-    choices[i] != 255
+    seat::has_choice(seats[c], i)
 }
 
 // The seats at work, rising.
@@ -112,13 +109,9 @@ fn at_work(desk: Desk) {
 fn named_at_work(seat: Seat, c: usize) -> u64
     ensures { λ r. ⌜ r ≤ 1 ⌝ }
 {
-    let state = seat.state;
-    match state {
-        State::Closed => 0,
-        State::Ready => 0,
-        State::AtWork(_) => {
-            around(b" ", c as u64, b"");
-            1
-        }
+    if !seat::is_at_work(seat) {
+        return 0;
     }
+    around(b" ", c as u64, b"");
+    1
 }

@@ -1,4 +1,5 @@
-// What the calls answer. The number is 0 for none; of a refused call all else is 0 or false, and the desk is as it came.
+// What the calls answer. The number is 0 for none; of a refused call all else is 0 or false, and the desk is as it came
+// (a refused open's is a fresh one).
 use crate::Desk;
 
 pub struct Changed {

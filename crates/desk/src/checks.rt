@@ -27,7 +27,7 @@ pub fn open_number(board_length: usize, sizes: &[u8], rules: &[u16]) -> u8
     catalogue::fault(sizes, rules)
 }
 
-// 1 to 20: what every other call checks first, and turns alone.
+// 1 to 20: what every other call checks first, and all that turns checks.
 pub fn turns_number(desk: Desk, board_length: usize, sizes: &[u8], rules: &[u16]) -> u8
     ensures { λ r. ⌜ ((board : List ℕ) → length board ≡ «board_length» → (w : ℕ)
         → r ≡ refusal (catalogueOf (now (sizes .entry)) (now (rules .entry))) (turns w) (roomOf desk board)) ⌝ }
@@ -76,7 +76,7 @@ pub fn leave_number(desk: Desk, board_length: usize, sizes: &[u8], rules: &[u16]
     0
 }
 
-// What every call that names a feature checks first, and options alone.
+// What every call that names a feature checks first, and all that options checks.
 pub fn options_number(
     desk: Desk,
     board_length: usize,

@@ -73,6 +73,7 @@ fn make_turns(desk: Desk, board: &mut [u8], sizes: &[u8], rules: &[u16], w: u16)
         seats[c] = seat;
         next = after as u8;
         made += 1;
+        // A mark is touched only where a job has ended: made anew at every step, it would keep the next turn waiting.
         if is_at_work(seat) {
             continue;
         }
@@ -82,16 +83,16 @@ fn make_turns(desk: Desk, board: &mut [u8], sizes: &[u8], rules: &[u16], w: u16)
 }
 
 // The answer of an accepted call.
-fn turned(made: u16, marks: u8, desk: Desk) -> Turned
+fn turned(made: u16, working: u8, desk: Desk) -> Turned
     requires { ⌜ desk .next < 8 ⌝ }
     ensures { λ r. ⌜ r ≡ record {
       number = 0;
       made = made;
-      working = isSome (trueFrom 8 (marksOf marks) (desk .next));
+      working = isSome (trueFrom 8 (marksOf working) (desk .next));
       desk = desk;
     } ⌝ }
 {
-    let found = first_at_work(marks, desk.next as usize);
+    let found = first_at_work(working, desk.next as usize);
     Turned {
         number: 0,
         made,
@@ -144,8 +145,8 @@ fn with_mark(working: u8, c: usize, mark: bool) -> u8
     working & (255 - bit)
 }
 
-// The first seat at work from `next` upward around the ring. The marks are laid out twice, so that the seats from `next`
-// on stand in one row, and the first is as far ahead as there are zeros below it.
+// The first seat at work from `next` upward around the ring. The marks are put twice, so that the seats from `next` on
+// stand in one row, and the first is as far ahead as there are zeros below it.
 fn first_at_work(working: u8, next: usize) -> Found
     requires { ⌜ next < 8 ⌝ }
     ensures { λ r. ⌜ foundOf r ≡ trueFrom 8 (marksOf working) next ⌝ }

@@ -19,7 +19,8 @@ ghost use mathlib.Core.Path.{_≡_};
 ghost use lib.ListN.{take, drop};
 ghost use Rattle.catalogue.specs.Catalogue.{catalogueOf};
 ghost use Rattle.desk.specs.Call.{enter, leave, choose, relax, options, example, turns};
-ghost use Rattle.host.specs.Door.{inside, throughDoor, openedDoor, hostChangedOutcome, hostLeftAnswer, hostTurnedOutcome, exampleStands};
+ghost use Rattle.host.specs.Door.{inside, throughDoor, openedDoor, hostChangedOutcome};
+ghost use Rattle.host.specs.Door.{hostLeftAnswer, hostTurnedOutcome, exampleStands};
 
 #[no_mangle]
 pub extern "C" fn nethazel_open(board: &mut [u8], sizes: &[u8], rules: &[u16]) -> HostChanged

@@ -89,13 +89,13 @@ kept-under trial sixteen j v within nothing =
     is-kept (set trial j v) (rw length-set sixteen) j within trial sixteen
     (λ (f : ℕ) (l : f < j). sym (getD-set-other trial j f v 255 (omega arith))) nothing
 
-module _ {j v : ℕ} {placed : List ℕ} (so : PlacedAt j v placed) (within : j < 16) where
+module _ {j : ℕ} {placed : List ℕ} (so : PlacedAt j placed) (within : j < 16) where
   pub kept-whole : placed ≡ keptBefore (j + 1) placed
   kept-whole = kept-all placed (so .sixteen) (j + 1) (omega arith) (λ (f : ℕ) (l : j + 1 ≤ f). so .nothing-after f (omega arith))
 
   -- the option tried, placed over what stood before it
-  pub placed-again : set (keptBefore j placed) j v ≡ placed
-  placed-again =
+  pub placed-again : (v : ℕ) → getD placed j 255 ≡ v → set (keptBefore j placed) j v ≡ placed
+  placed-again v there =
       let long = kept-length placed (so .sixteen) j (omega arith) in
       ext-getD 255 (set (keptBefore j placed) j v) placed (length-set (keptBefore j placed) j v ∙ long ∙ sym (so .sixteen))
       (λ (f : ℕ) (l : f < length (set (keptBefore j placed) j v)).
@@ -104,7 +104,7 @@ module _ {j v : ℕ} {placed : List ℕ} (so : PlacedAt j v placed) (within : j 
       (λ (from : j ≤ f).
       ⊎-elim (λ (here : f < j + 1).
       let same : f ≡ j = omega arith in
-      rw same (getD-set-same (keptBefore j placed) j v 255 (omega (arith, long)) ∙ sym (so .there)))
+      rw same (getD-set-same (keptBefore j placed) j v 255 (omega (arith, long)) ∙ sym there))
       (λ (after : j + 1 ≤ f).
       getD-set-other (keptBefore j placed) j f v 255 (omega arith)
       ∙ nothing-kept placed (so .sixteen) j (omega arith) f from ∙ sym (so .nothing-after f (omega arith)))

@@ -15,7 +15,7 @@ use Rattle.seat.specs.declared.Place.{Place}
 use Rattle.seat.specs.declared.State.{State}
 use Rattle.seat.specs.Clinic.{Clinic, nothing16, moved, withExample}
 use Rattle.seat.specs.Candidates.{candidates, firstCandidate, chosenOtherwise}
-use Rattle.seat.specs.Step.{started, pairEnded, afterTried, stepAt, stepIn, step, steps}
+use Rattle.seat.specs.Step.{started, pairEnded, afterTried, stepAt, stepFrom, step, steps}
 use Rattle.seat.specs.Count.{Search, nothingTried, oneStep, orLater, searchEach, searchFrom, pairSearch}
 use Rattle.seat.proofs.Takes.{Takes, WorkingOn, takes-steps, takes-before, takes-to, takes-from}
 use Rattle.seat.proofs.InTurn.{firstOf, candidates-first}
@@ -73,7 +73,7 @@ module _ (catalogue : Catalogue) (fault : faultOf catalogue ≡ 0) (i a : ℕ) w
     searchWith n = searchFrom (passes (rulesOf catalogue)) (candidates sizes choices i a) n 0 nothing16
 
     ends-at-once : chosenOtherwise choices i a ≡ true → TakesTo (oneStep nothingTried)
-    unfolding step stepIn stepAt
+    unfolding step stepFrom stepAt
     ends-at-once h =
         let here : Place = record { feature = i; option = a; depth = 0; next = firstCandidate sizes choices i a 0 } in
         let over : step catalogue clinic ≡ pairEnded sizes i a clinic = rw (begins .state-is, h) refl in

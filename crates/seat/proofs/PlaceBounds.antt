@@ -66,14 +66,21 @@ module _ (catalogue : Catalogue) (fault : faultOf catalogue ≡ 0) where
           (before-or-from f (p .depth))
 
       -- what is placed where the next option is tried
-      pub placed-so : PlacedAt (p .depth) (p .next) (set (seat .trial) (p .depth) (p .next))
-      placed-so =
+      pub tried-there : getD (set (seat .trial) (p .depth) (p .next)) (p .depth) 255 ≡ p .next
+      tried-there =
           let deep = depth-below-16 place-at-work in
-          record {
-            sixteen = rw length-set sixteen;
-            there = getD-set-same (seat .trial) (p .depth) (p .next) 255 (omega (arith, sixteen));
-            options-before = λ (f : ℕ) (l : f < p .depth).
-                rw (getD-set-other (seat .trial) (p .depth) f (p .next) 255 (omega arith)) (omega (arith, placed-below-16 f l));
-            nothing-after = λ (f : ℕ) (l : p .depth < f).
-                getD-set-other (seat .trial) (p .depth) f (p .next) 255 (omega arith) ∙ nothing-from-depth f (omega arith);
-          }
+          getD-set-same (seat .trial) (p .depth) (p .next) 255 (omega (arith, sixteen))
+
+      pub placed-so : PlacedAt (p .depth) (set (seat .trial) (p .depth) (p .next))
+      placed-so = record {
+        sixteen = rw length-set sixteen;
+        options-to = λ (f : ℕ) (l : f ≤ p .depth).
+            ⊎-elim (λ (before : f < p .depth).
+            rw (getD-set-other (seat .trial) (p .depth) f (p .next) 255 (omega arith)) (omega (arith, placed-below-16 f before)))
+            (λ (from : p .depth ≤ f).
+            let same : f ≡ p .depth = omega arith in
+            rw (same, tried-there) (omega (arith, next-below-16 place-at-work)))
+            (before-or-from f (p .depth));
+        nothing-after = λ (f : ℕ) (l : p .depth < f).
+            getD-set-other (seat .trial) (p .depth) f (p .next) 255 (omega arith) ∙ nothing-from-depth f (omega arith);
+      }

@@ -10,7 +10,7 @@ use Rattle.seat.specs.declared.Place.{Place}
 use Rattle.seat.specs.declared.State.{State}
 use Rattle.seat.specs.declared.State.the-variants.{Ready, AtWork}
 use Rattle.seat.specs.Clinic.{Clinic}
-use Rattle.seat.specs.Step.{stepIn, step, steps, ReadyAfter}
+use Rattle.seat.specs.Step.{stepFrom, step, steps, ReadyAfter}
 
 pub not-both : (state : State) (p : Place) → state ≡ Ready → state ≡ AtWork p → ⊥
 not-both state p ready work = let z : _≡_ {A = ℕ} 0 1 = cc in omega arith
@@ -26,8 +26,8 @@ module _ (catalogue : Catalogue) (start : Clinic) where
   pub ready-once : (k m : ℕ) → ReadyAfter catalogue start k → ReadyAfter catalogue start m → k ≡ m
   ready-once k m r s = let one = not-before k m r s in let other = not-before m k s r in omega arith
 
-no-step : (catalogue : Catalogue) (clinic : Clinic) (state : State) → state ≡ Ready → stepIn catalogue state clinic ≡ clinic
-unfolding stepIn
+no-step : (catalogue : Catalogue) (clinic : Clinic) (state : State) → state ≡ Ready → stepFrom catalogue state clinic ≡ clinic
+unfolding stepFrom
 no-step catalogue clinic state r = rw r refl
 
 pub ready-stays : (catalogue : Catalogue) (clinic : Clinic) (n : ℕ) → clinic .seat .state ≡ Ready → steps catalogue n clinic ≡ clinic

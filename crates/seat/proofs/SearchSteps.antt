@@ -16,7 +16,7 @@ use Rattle.seat.specs.declared.State.{State}
 use Rattle.seat.specs.declared.State.the-variants.{AtWork}
 use Rattle.seat.specs.Clinic.{Clinic, moved, withExample}
 use Rattle.seat.specs.Candidates.{candidates, firstCandidate, firstAbove, chosenOtherwise}
-use Rattle.seat.specs.Step.{Tried, goOn, build, exhausted, goOnIf, givenUp, tried, pairEnded, afterTried, stepAt, stepIn, step}
+use Rattle.seat.specs.Step.{Tried, goOn, build, exhausted, goOnIf, givenUp, tried, pairEnded, afterTried, stepAt, stepFrom, step}
 use Rattle.seat.specs.Count.{Search, nothingTried, oneStep, orLater, andThen, searchEach, searchFrom}
 use Rattle.seat.proofs.Takes.{Takes, WorkingOn, takes-times, takes-from, takes-join}
 use Rattle.seat.proofs.InTurn.{InTurn, firstOf, candidates-in-turn, candidates-first}
@@ -92,7 +92,7 @@ module _ (catalogue : Catalogue) (i a : ℕ) (clinic : Clinic) where
     step-tries : (j v : ℕ) (trial : List ℕ)
         → step catalogue (afterTried sizes i a clinic (goOn j v trial))
         ≡ afterTried sizes i a clinic (tried catalogue choices i a j v trial)
-    unfolding step stepIn stepAt afterTried
+    unfolding step stepFrom stepAt afterTried
     step-tries j v trial =
         let here : State = AtWork (record { feature = i; option = a; depth = j; next = v }) in
         let after : Tried = tried catalogue choices i a j v trial in

@@ -18,7 +18,7 @@ use Rattle.seat.specs.declared.State.{State}
 use Rattle.seat.specs.declared.State.the-variants.{Closed, Ready, AtWork}
 use Rattle.seat.specs.Clinic.{Clinic, nothing16, withExample}
 use Rattle.seat.specs.Candidates.{chosenOtherwise}
-use Rattle.seat.specs.Step.{Tried, started, afterPair, pairEnded, afterTried, tried, stepAt, stepIn, step, posted}
+use Rattle.seat.specs.Step.{Tried, started, afterPair, pairEnded, afterTried, tried, stepAt, stepFrom, step, posted}
 use Rattle.seat.specs.Fit.{depthOf}
 use Rattle.seat.proofs.Fits.{PlaceFits, SeatFits, seat-fits}
 use Rattle.seat.proofs.PlaceBounds.{first-has-option, size-within, feature-below-16, option-below-16}
@@ -115,13 +115,13 @@ module _ (catalogue : Catalogue) (fault : faultOf catalogue ≡ 0) where
         go false = after-tried-fits trying-fits
 
   pub step-fits : (clinic : Clinic) → ClinicFits catalogue clinic → ClinicFits catalogue (step catalogue clinic)
-  unfolding step stepIn
+  unfolding step stepFrom
   step-fits clinic c = go (clinic .seat .state) refl
     where
       seat-is : SeatFits catalogue (clinic .seat)
       seat-is = seat-fits catalogue (clinic .seat) (c .fits)
 
-      go : (state : State) → clinic .seat .state ≡ state → ClinicFits catalogue (stepIn catalogue state clinic)
+      go : (state : State) → clinic .seat .state ≡ state → ClinicFits catalogue (stepFrom catalogue state clinic)
       go Closed e = c
       go Ready e = c
       go (AtWork p) e =

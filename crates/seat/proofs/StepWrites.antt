@@ -19,7 +19,7 @@ use Rattle.seat.specs.declared.State.the-variants.{Closed, Ready, AtWork
 use Rattle.seat.specs.Bits.{hasBit, withBit}
 use Rattle.seat.specs.Clinic.{Clinic, noneLeft, emptyShare, withExample}
 use Rattle.seat.specs.Candidates.{chosenOtherwise}
-use Rattle.seat.specs.Step.{Tried, goOn, build, exhausted, pairEnded, afterTried, tried, stepAt, stepIn, step, steps}
+use Rattle.seat.specs.Step.{Tried, goOn, build, exhausted, pairEnded, afterTried, tried, stepAt, stepFrom, step, steps}
 use Rattle.seat.proofs.Bits.{no-bit-above}
 use Rattle.seat.proofs.Fits.{seat-fits}
 use Rattle.seat.proofs.PlaceBounds.{feature-below-16, place-at-work}
@@ -56,10 +56,10 @@ module _ (catalogue : Catalogue) (clinic : Clinic) where
         go false = tried-writes trying
 
   pub step-writes : Writes clinic (step catalogue clinic)
-  unfolding step stepIn
+  unfolding step stepFrom
   step-writes = go (clinic .seat .state) refl
     where
-      go : (state : State) → clinic .seat .state ≡ state → Writes clinic (stepIn catalogue state clinic)
+      go : (state : State) → clinic .seat .state ≡ state → Writes clinic (stepFrom catalogue state clinic)
       go Closed e = nothing refl refl
       go Ready e = nothing refl refl
       go (AtWork p) e = step-at-writes p e

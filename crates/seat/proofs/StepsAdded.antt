@@ -10,7 +10,7 @@ use Rattle.seat.specs.declared.State.{State}
 use Rattle.seat.specs.declared.State.the-variants.{Closed, Ready, AtWork}
 use Rattle.seat.specs.Clinic.{Clinic, closedClinic, withExample}
 use Rattle.seat.specs.Candidates.{chosenOtherwise}
-use Rattle.seat.specs.Step.{Tried, goOn, build, exhausted, pairEnded, afterTried, tried, stepAt, stepIn, step, steps}
+use Rattle.seat.specs.Step.{Tried, goOn, build, exhausted, pairEnded, afterTried, tried, stepAt, stepFrom, step, steps}
 
 module _ (catalogue : Catalogue) where
   pub steps-added : (m n : ℕ) (clinic : Clinic) → steps catalogue (m + n) clinic ≡ steps catalogue n (steps catalogue m clinic)
@@ -19,7 +19,7 @@ module _ (catalogue : Catalogue) where
   steps-added (suc m) n clinic = rw suc-add (steps-added m n (step catalogue clinic))
 
   pub closed-stays : (n : ℕ) → steps catalogue n closedClinic ≡ closedClinic
-  unfolding steps step stepIn
+  unfolding steps step stepFrom
   closed-stays zero = refl
   closed-stays (suc n) = closed-stays n
 
@@ -31,8 +31,8 @@ module _ (catalogue : Catalogue) where
     tried-choices p (build trial) = refl
     tried-choices p exhausted = refl
 
-    step-choices : (state : State) → stepIn catalogue state clinic .seat .choices ≡ clinic .seat .choices
-    unfolding stepIn stepAt pairEnded
+    step-choices : (state : State) → stepFrom catalogue state clinic .seat .choices ≡ clinic .seat .choices
+    unfolding stepFrom stepAt pairEnded
     step-choices Closed = refl
     step-choices Ready = refl
     step-choices (AtWork p) = go (chosenOtherwise (clinic .seat .choices) (p .feature) (p .option))

@@ -72,14 +72,14 @@ stepAt catalogue p clinic =
     (afterTried (catalogue .sizes) (p .feature) (p .option) clinic
     (tried catalogue (clinic .seat .choices) (p .feature) (p .option) (p .depth) (p .next) (clinic .seat .trial)))
 
-unfoldable pub stepIn : Catalogue → State → Clinic → Clinic
-stepIn catalogue Closed clinic = clinic
-stepIn catalogue Ready clinic = clinic
-stepIn catalogue (AtWork p) clinic = stepAt catalogue p clinic
+unfoldable pub stepFrom : Catalogue → State → Clinic → Clinic
+stepFrom catalogue Closed clinic = clinic
+stepFrom catalogue Ready clinic = clinic
+stepFrom catalogue (AtWork p) clinic = stepAt catalogue p clinic
 
 -- one step; a seat that is not at work has none to make
 unfoldable pub step : Catalogue → Clinic → Clinic
-step catalogue clinic = stepIn catalogue (clinic .seat .state) clinic
+step catalogue clinic = stepFrom catalogue (clinic .seat .state) clinic
 
 unfoldable pub steps : Catalogue → ℕ → Clinic → Clinic
 steps catalogue zero clinic = clinic

@@ -1,5 +1,5 @@
--- The enums of the code as the definitions have them, and what inner functions need and say; no promise cites this file.
-use Prim.Native.Nat.{ℕ, _-_, _<_}
+-- The enums of the code as the definitions have them, and what its functions need and say; no promise cites this file.
+use Prim.Native.Nat.{ℕ, _-_, _≤_, _<_}
 use mathlib.Core.Path.{_≡_}
 use mathlib.Core.Bool.{Bool, true, cond}
 use mathlib.Core.List.{List, _++_}
@@ -17,9 +17,9 @@ use Rattle.seat.specs.declared.search.After.{After}
 use Rattle.seat.specs.declared.search.Way.{Way}
 use Rattle.seat.specs.declared.search.Way.the-variants.{GoOn, Build, Exhausted}
 use Rattle.seat.specs.Bits.{withBit}
-use Rattle.seat.specs.Clinic.{Clinic}
+use Rattle.seat.specs.Clinic.{Clinic, clinicOf}
 use Rattle.seat.specs.Fit.{placeFits, seatFits}
-use Rattle.seat.specs.Step.{Tried, goOn, build, exhausted, step}
+use Rattle.seat.specs.Step.{Tried, goOn, build, exhausted, stepAt, step}
 
 abbrev pub nextOf : Next → Option ℕ
 nextOf (Candidate v) = some v
@@ -31,11 +31,10 @@ nextOf Nothing = none
 unfoldable pub keptBefore : ℕ → List ℕ → List ℕ
 keptBefore depth placed = take depth placed ++ replicate (16 - depth) 255
 
--- where v is tried at depth j: options before it, v itself, nothing after it
-pub record PlacedAt (j v : ℕ) (placed : List ℕ) : Type 0 where
+-- where an option is tried at depth j: options up to there, nothing after it
+pub record PlacedAt (j : ℕ) (placed : List ℕ) : Type 0 where
   pub sixteen : length placed ≡ 16
-  pub there : getD placed j 255 ≡ v
-  pub options-before : (f : ℕ) → f < j → getD placed f 255 < 255
+  pub options-to : (f : ℕ) → f ≤ j → getD placed f 255 < 255
   pub nothing-after : (f : ℕ) → j < f → getD placed f 255 ≡ 255
 
 abbrev pub triedOf : Way → List ℕ → Tried
@@ -72,7 +71,8 @@ pub record TryNeeds (catalogue : Catalogue) (place : Place) (choices placed plac
   pub no-fault : faultOf catalogue ≡ 0
   pub within : placeFits catalogue place ≡ true
   pub sixteen-choices : length choices ≡ 16
-  pub placed-so : PlacedAt (place .depth) (place .next) placed
+  pub placed-so : PlacedAt (place .depth) placed
+  pub tried : getD placed (place .depth) 255 ≡ place .next
   pub starts : AllStarts (catalogue .list) places counts
 
 -- the masks, with the bit of an option for which a build was found
@@ -80,13 +80,19 @@ abbrev pub masksWith : Bool → ℕ → ℕ → List ℕ → List ℕ
 masksWith found i a masks = cond found (set masks i (withBit (getD masks i 0) a)) masks
 
 -- the record after a step, by what the step comes to
-abbrev pub seatAfter : After → Place → List ℕ → Seat → Seat
-seatAfter after place placed seat = record {
+abbrev pub recordAfter : After → Place → List ℕ → Seat → Seat
+recordAfter after place placed seat = record {
   state = after .state;
   choices = seat .choices;
   masks = masksWith (after .found) (place .feature) (place .option) (seat .masks);
   trial = keptBefore (after .depth) placed;
 }
+
+-- what a step comes to, for whichever record has these choices and this trial, whatever its masks; and the share after it
+abbrev pub ComesTo : Catalogue → Place → List ℕ → List ℕ → List ℕ → After → List ℕ → Type 0
+ComesTo catalogue place choices placed share after share′ =
+    (seat : Seat) → seat .choices ≡ choices → seat .trial ≡ keptBefore (place .depth) placed
+    → clinicOf (recordAfter after place placed seat) share′ ≡ stepAt catalogue place (clinicOf seat share)
 
 -- ---- number 20
 

@@ -6,12 +6,12 @@ use crate::share::empty;
 ghost use mathlib.Core.Path.{_≡_};
 ghost use Prim.Native.Nat.{_<_, _≤_};
 ghost use lib.ListN.{length, getD, set};
-ghost use Rattle.seat.specs.Clinic.{closedClinic, closedSeat};
+ghost use Rattle.seat.specs.Clinic.{clinicOf, closedClinic, closedSeat};
 ghost use Rattle.seat.specs.Step.{posted};
 
 pub fn enter(seat: Seat, share: &mut [u8], sizes: &[u8]) -> Seat
     requires { ⌜ (length (now share) ≡ 4096) × (1 ≤ getD (now sizes) 0 0) ⌝ }
-    ensures { λ r. ⌜ record { seat = r; share = now (share .exit) } ≡ posted (now (sizes .entry)) (seat .choices) ⌝ }
+    ensures { λ r. ⌜ clinicOf r (now (share .exit)) ≡ posted (now (sizes .entry)) (seat .choices) ⌝ }
 {
     let choices = seat.choices;
     post(choices, share, sizes)
@@ -19,7 +19,7 @@ pub fn enter(seat: Seat, share: &mut [u8], sizes: &[u8]) -> Seat
 
 pub fn choose(seat: Seat, share: &mut [u8], sizes: &[u8], feature: usize, option: u8) -> Seat
     requires { ⌜ (feature < 16) × (length (now share) ≡ 4096) × (1 ≤ getD (now sizes) 0 0) ⌝ }
-    ensures { λ r. ⌜ record { seat = r; share = now (share .exit) }
+    ensures { λ r. ⌜ clinicOf r (now (share .exit))
         ≡ posted (now (sizes .entry)) (set (seat .choices) feature option) ⌝ }
 {
     let mut choices = seat.choices;
@@ -29,7 +29,7 @@ pub fn choose(seat: Seat, share: &mut [u8], sizes: &[u8], feature: usize, option
 
 pub fn relax(seat: Seat, share: &mut [u8], sizes: &[u8], feature: usize) -> Seat
     requires { ⌜ (feature < 16) × (length (now share) ≡ 4096) × (1 ≤ getD (now sizes) 0 0) ⌝ }
-    ensures { λ r. ⌜ record { seat = r; share = now (share .exit) }
+    ensures { λ r. ⌜ clinicOf r (now (share .exit))
         ≡ posted (now (sizes .entry)) (set (seat .choices) feature 255) ⌝ }
 {
     choose(seat, share, sizes, feature, 255)
@@ -37,7 +37,7 @@ pub fn relax(seat: Seat, share: &mut [u8], sizes: &[u8], feature: usize) -> Seat
 
 pub fn close(share: &mut [u8]) -> Seat
     requires { ⌜ length (now share) ≡ 4096 ⌝ }
-    ensures { λ r. ⌜ record { seat = r; share = now (share .exit) } ≡ closedClinic ⌝ }
+    ensures { λ r. ⌜ clinicOf r (now (share .exit)) ≡ closedClinic ⌝ }
 {
     empty(share);
     closed()
@@ -58,7 +58,7 @@ pub fn closed() -> Seat
 // Masks emptied, share filled with 255, pair (0, 0).
 fn post(choices: [u8; 16], share: &mut [u8], sizes: &[u8]) -> Seat
     requires { ⌜ (length (now share) ≡ 4096) × (1 ≤ getD (now sizes) 0 0) × (length choices ≡ 16) ⌝ }
-    ensures { λ r. ⌜ record { seat = r; share = now (share .exit) } ≡ posted (now (sizes .entry)) choices ⌝ }
+    ensures { λ r. ⌜ clinicOf r (now (share .exit)) ≡ posted (now (sizes .entry)) choices ⌝ }
 {
     empty(share);
     let state = started(sizes, &choices, 0, 0);

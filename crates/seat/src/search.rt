@@ -11,13 +11,12 @@ ghost use mathlib.Core.Bool.{cond};
 ghost use Prim.Native.Nat.{ℕ, _+_, _<_, _≤_};
 ghost use lib.ListN.{length, getD, set};
 ghost use Rattle.catalogue.specs.Catalogue.{catalogueOf};
-ghost use Rattle.seat.specs.declared.Seat.{Seat};
 ghost use Rattle.seat.specs.declared.State.the-variants.{AtWork};
 ghost use Rattle.seat.specs.Candidates.{chosenOtherwise};
 ghost use Rattle.seat.specs.Clinic.{clinicOf};
 ghost use Rattle.seat.specs.Step.{givenUp, tried, started, afterPair, stepAt};
 ghost use Rattle.seat.specs.Ways.{keptBefore, PlacedAt, triedOf, depthIn, edgeBytes};
-ghost use Rattle.seat.specs.Ways.{StepNeeds, Stepped, TryNeeds, masksWith, seatAfter};
+ghost use Rattle.seat.specs.Ways.{StepNeeds, Stepped, TryNeeds, ComesTo, masksWith};
 
 // What comes of trying an option.
 pub enum Way {
@@ -57,7 +56,7 @@ pub fn step(
 }
 
 // The record is only read, and each array of the new one is made whole: so both are held in registers. What is placed is
-// copied for the test alone, which looks options up by feature.
+// copied for who looks options up by feature: the test, the way back, and the example.
 fn step_at(
     seat: Seat,
     place: Place,
@@ -114,10 +113,8 @@ fn after_step(
         (now choices) (now placed) (now places) (now counts) ⌝ }
     requires { ⌜ length (now share) ≡ 4096 ⌝ }
     ensures { λ r. ⌜ r .depth ≤ place .depth + 1 ⌝ }
-    ensures { λ r. ⌜ ((seat : Seat) → seat .choices ≡ now (choices .entry)
-        → seat .trial ≡ keptBefore (place .depth) (now (placed .entry))
-        → clinicOf (seatAfter r place (now (placed .entry)) seat) (now (share .exit))
-        ≡ stepAt (catalogueOf (now (sizes .entry)) (now (rules .entry))) place (clinicOf seat (now (share .entry)))) ⌝ }
+    ensures { λ r. ⌜ ComesTo (catalogueOf (now (sizes .entry)) (now (rules .entry))) place
+        (now (choices .entry)) (now (placed .entry)) (now (share .entry)) r (now (share .exit)) ⌝ }
 {
     let feature = place.feature;
     let option = place.option;
@@ -202,7 +199,7 @@ fn try_next(
 // Rule 5: the next greater candidate, at this depth or the nearest earlier one that has any.
 fn given_up(sizes: &[u8], choices: &[u8], i: usize, option: u8, depth: u8, placed: &[u8]) -> Way
     requires { ⌜ (length (now choices) ≡ 16) × (length (now sizes) ≤ 16) × (depth < length (now sizes)) ⌝ }
-    requires { ⌜ PlacedAt depth (getD (now placed) depth 255) (now placed) × (getD (now placed) depth 255 < 255) ⌝ }
+    requires { ⌜ PlacedAt depth (now placed) ⌝ }
     ensures { λ r. ⌜ depthIn r ≤ depth ⌝ }
     ensures { λ r. ⌜ triedOf r (now (placed .entry))
         ≡ givenUp (now (sizes .entry)) (now (choices .entry)) i option depth (getD (now (placed .entry)) depth 255)
@@ -254,7 +251,7 @@ fn pick(there: bool, yes: u16, no: u16) -> u16
 // that sixteen entries are made at once.
 fn trial_after(trial: [u8; 16], edge: &[u8], depth: u8, next: u8, kept: u8) -> [u8; 16]
     requires { ⌜ (depth < 16) × (kept ≤ depth + 1) × (now edge ≡ edgeBytes) ⌝ }
-    requires { ⌜ (getD trial depth 255 ≡ 255) × ((f : ℕ) → getD trial f 255 < 256) ⌝ }
+    requires { ⌜ (getD trial depth 255 ≡ 255) × ((f : ℕ) → getD trial f 255 < 256) ⌝ } // the entries of a [u8; 16]
     ensures { λ r. ⌜ r ≡ keptBefore kept (set trial depth next) ⌝ }
 {
     let old = 16 - depth as usize;
@@ -268,7 +265,8 @@ fn trial_after(trial: [u8; 16], edge: &[u8], depth: u8, next: u8, kept: u8) -> [
     after
 }
 
-// Made once where turns begin, and lent to every step.
+// Sixteen bytes of 255, then sixteen of 0: read from 16 − d on, 255 before depth d. Made once where turns begin, and lent
+// to every step.
 pub fn edge() -> [u8; 32]
     ensures { λ r. ⌜ r ≡ edgeBytes ⌝ }
 {

@@ -2,7 +2,6 @@
 -- is placed up to the first depth is below 255, so that the number after it is one of the code's bytes too.
 use Prim.Native.Nat.{ℕ, _+_, _-_, _≤_, _<_}
 use mathlib.Core.Path.{_≡_, refl, sym, ap, _∙_}
-use mathlib.Core.Logic.{⊎-elim}
 use mathlib.Core.Option.{none}
 use native.Mathlib.Omega.{arith}
 use borrow.Author.Needs.{needs}
@@ -12,7 +11,7 @@ use Rattle.seat.specs.Candidates.{nextCandidate}
 use Rattle.seat.specs.Step.{givenUp}
 use Rattle.seat.specs.Ways.{nextOf, keptBefore}
 use Rattle.seat.proofs.GoingBack.{goes-on, ends, goes-back}
-use Rattle.seat.proofs.Kept.{before-or-from, kept-before, kept-less}
+use Rattle.seat.proofs.Kept.{kept-before, kept-less}
 use Rattle.seat.proofs.search.given_up.Statement.{statement}
 use Rattle.seat.proofs.search.given_up.Tie as tie
 
@@ -25,16 +24,9 @@ Inv-loop sizes choices i option depth placed j₀ j =
 abbrev μ-loop : tie.MeasureT-loop
 μ-loop sizes choices i option depth placed j₀ j = j
 
--- up to the first depth there are options
-option-there : (c : tie.Start Inv-loop μ-loop) (j : ℕ) → j ≤ c .args .depth → getD (c .args .placed .now) j 255 < 255
-option-there c j l =
-    ⊎-elim (λ (before : j < c .args .depth). c .pre .1 .0 .options-before j before)
-    (λ (from : c .args .depth ≤ j). let same : j ≡ c .args .depth = omega arith in rw same (c .pre .1 .1))
-    (before-or-from j (c .args .depth))
-
 -- the code's reading is the definition's
 read-there : (c : tie.Start Inv-loop μ-loop) (j : ℕ) → j < 16 → getD (c .args .placed .now) j 0 ≡ getD (c .args .placed .now) j 255
-read-there c j l = getD-within (c .args .placed .now) j 0 255 (omega (arith, c .pre .1 .0 .sixteen))
+read-there c j l = getD-within (c .args .placed .now) j 0 255 (omega (arith, c .pre .1 .sixteen))
 
 loop-holds : tie.Need-loop-holds Inv-loop μ-loop
 loop-holds c = (omega arith, refl)
@@ -43,14 +35,14 @@ cast-at : tie.Need-cast-at Inv-loop μ-loop
 cast-at c = search needs
 
 shared-slice-read-next-candidate : tie.Need-shared-slice-read-next-candidate Inv-loop μ-loop
-shared-slice-read-next-candidate c = omega (arith, c .before .before .before .before .before .pre .1 .0 .sixteen)
+shared-slice-read-next-candidate c = omega (arith, c .before .before .before .before .before .pre .1 .sixteen)
 
 next-candidate-requires : tie.Need-next-candidate-requires Inv-loop μ-loop
 next-candidate-requires c κs =
     let start = c .before .before .before .before .before in
     let j = c .before .loop .j in
     let within : j < 16 = omega arith in
-    (start .pre .0 .0, within, omega arith, rw (read-there start j within) (option-there start j (c .before .loop .inv .0)))
+    (start .pre .0 .0, within, omega arith, rw (read-there start j within) (start .pre .1 .options-to j (c .before .loop .inv .0)))
 
 enum-known-next : tie.Need-enum-known-next Inv-loop μ-loop
 enum-known-next c = search needs
@@ -100,7 +92,7 @@ loop-again c =
     let a = start .args in
     let l = c .before .before .before .before .before .loop in
     let placed = a .placed .now in
-    let sixteen = start .pre .1 .0 .sixteen in
+    let sixteen = start .pre .1 .sixteen in
     let d : ℕ = l .j - 1 in
     let e : l .j ≡ d + 1 = omega arith in
     let back = goes-back (a .sizes .now) (a .choices .now) (a .i) (a .option) (l .j) (getD placed (l .j) 255) (keptBefore (l .j) placed) d (none-left (c .before)) e in

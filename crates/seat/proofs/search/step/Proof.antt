@@ -4,7 +4,7 @@ use borrow.Author.Needs.{needs}
 use Rattle.catalogue.specs.Catalogue.{catalogueOf}
 use Rattle.seat.specs.declared.State.{State}
 use Rattle.seat.specs.Clinic.{clinicOf}
-use Rattle.seat.specs.Step.{stepIn, step}
+use Rattle.seat.specs.Step.{stepFrom, step}
 use Rattle.seat.proofs.search.step.Statement.{statement}
 use Rattle.seat.proofs.search.step.Tie as tie
 
@@ -21,23 +21,23 @@ step-at-requires : tie.Need-step-at-requires
 step-at-requires c κs = search needs
 
 returns : tie.Need-returns
-unfolding step stepIn
+unfolding step stepFrom
 returns c = rw (c .enum-told .given .1) refl
 
 returns-2 : tie.Need-returns-2
-unfolding step stepIn
+unfolding step stepFrom
 returns-2 c = rw (c .enum-told2 .given .1) refl
 
 same-length : tie.Need-same-length
 same-length c = search needs
 
 returns-3 : tie.Need-returns-3
-unfolding step stepIn
+unfolding step stepFrom
 returns-3 c =
     let start = c .before .before .before .before .before .before .before .before .before .before .before .before .before in
     let catalogue = catalogueOf (start .args .sizes .now) (start .args .rules .now) in
     c .before .before .step-at .ensures
-    ∙ sym (ap (λ (state : State). stepIn catalogue state (clinicOf (start .args .seat) (start .args .share .now))) (c .before .before .before .before .before .state .given .1))
+    ∙ sym (ap (λ (state : State). stepFrom catalogue state (clinicOf (start .args .seat) (start .args .share .now))) (c .before .before .before .before .before .state .given .1))
 
 pub step-spec : {M : Type 1} → statement M
 step-spec =

@@ -8,7 +8,7 @@ use lib.ListN.{length, set}
 use Rattle.catalogue.specs.Catalogue.{Catalogue, catalogueOf}
 use Rattle.seat.proofs.Fits.{PlaceFits, fits-place, SeatFits, seat-fits}
 use Rattle.seat.proofs.Kept.{kept-under}
-use Rattle.seat.proofs.PlaceBounds.{feature-below-16, option-below-16, depth-below-16, place-at-work, nothing-from-depth, trial-bytes, placed-so}
+use Rattle.seat.proofs.PlaceBounds.{feature-below-16, option-below-16, depth-below-16, place-at-work, nothing-from-depth, trial-bytes, tried-there, placed-so}
 use Rattle.seat.proofs.search.step_at.Statement.{statement}
 use Rattle.seat.proofs.search.step_at.Tie as tie
 
@@ -51,6 +51,7 @@ after-step-requires c κs =
         within = fits-place (within start);
         sixteen-choices = choices-long start;
         placed-so = placed-so (catalogue start) (needs .no-fault) (start .args .seat) (fits start) (start .args .place) (start .pre .1) (trial-long start);
+        tried = tried-there (catalogue start) (needs .no-fault) (start .args .seat) (fits start) (start .args .place) (start .pre .1) (trial-long start);
         starts = needs .starts;
       },
       needs .whole-share,

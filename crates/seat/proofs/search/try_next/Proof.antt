@@ -17,7 +17,7 @@ use Rattle.seat.specs.Step.{tried}
 use Rattle.seat.specs.Ways.{keptBefore}
 use Rattle.seat.proofs.Fits.{PlaceFits, place-fits}
 use Rattle.seat.proofs.Kept.{kept-whole, placed-again}
-use Rattle.seat.proofs.PlaceBounds.{few-features, size-within, depth-below-16, next-below-16}
+use Rattle.seat.proofs.PlaceBounds.{few-features, size-within, depth-below-16}
 use Rattle.seat.proofs.search.try_next.Statement.{statement}
 use Rattle.seat.proofs.search.try_next.Tie as tie
 
@@ -31,7 +31,7 @@ shallow : (c : tie.Start) → c .args .place .depth < 16
 shallow c = depth-below-16 (catalogue c) (c .pre .no-fault) (within c)
 
 again : (c : tie.Start) → set (keptBefore (c .args .place .depth) (c .args .placed .now)) (c .args .place .depth) (c .args .place .next) ≡ c .args .placed .now
-again c = placed-again (c .pre .placed-so) (shallow c)
+again c = placed-again (c .pre .placed-so) (shallow c) (c .args .place .next) (c .pre .tried)
 
 cast-i : tie.Need-cast-i
 cast-i c = search needs
@@ -93,18 +93,16 @@ test-passed c = sym (c .before .passes .ensures) ∙ not-false (c .before .passe
 
 given-up-requires : tie.Need-given-up-requires
 given-up-requires c κs =
-    let start = c .before .before .before .before .before .before .before .before .before .before .before .before in
-    let so = start .pre .placed-so in
-    let next-small = next-below-16 (catalogue start) (start .pre .no-fault) (within start) in (
+    let start = c .before .before .before .before .before .before .before .before .before .before .before .before in (
       (start .pre .sixteen-choices, few-features (catalogue start) (start .pre .no-fault), within start .depth-below),
-      (rw (so .there) so, omega (arith, next-small, so .there)),
+      start .pre .placed-so,
     )
 
 returns : tie.Need-returns
 unfolding tried
 returns c =
     let start = c .before .before .before .before .before .before .before .before .before .before .before .before .before in
-    (omega (arith, c .given-up .ensures .0), rw (again start, test-failed (c .before), ← (start .pre .placed-so .there)) (c .given-up .ensures .1))
+    (omega (arith, c .given-up .ensures .0), rw (again start, test-failed (c .before), ← (start .pre .tried)) (c .given-up .ensures .1))
 
 add-if2 : tie.Need-add-if2
 add-if2 c = search needs
