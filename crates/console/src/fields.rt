@@ -49,15 +49,7 @@ fn with_entry(seat: Seat, command: usize, numbers: &[u32]) -> Seat {
 }
 
 fn with_state(seat: Seat, state: State) -> Seat {
-    let choices = seat.choices;
-    let masks = seat.masks;
-    let trial = seat.trial;
-    Seat {
-        state,
-        choices,
-        masks,
-        trial,
-    }
+    Seat { state, ..seat }
 }
 
 fn with_seat(desk: Desk, c: usize, seat: Seat) -> Desk {

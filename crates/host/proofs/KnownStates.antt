@@ -8,11 +8,12 @@ use borrow.Author.Tests.{le-leb, lt-leb}
 use lib.ListN.{length, getD, drop, drop-of-length-le}
 use lib.Seq.{drop-cons}
 use Rattle.host.specs.declared.records.HostSeat.{HostSeat}
-use Rattle.host.specs.Records.{allKnown}
+use Rattle.seat.specs.Clinic.{noSeat}
+use Rattle.host.specs.Records.{hostSeatOf, allKnown}
 
 -- what is read past the eight seats; of no account
 abbrev pub noHostSeat : HostSeat
-noHostSeat = record { state = 0; feature = 0; option = 0; depth = 0; next = 0; choices = []; masks = []; trial = [] }
+noHostSeat = hostSeatOf noSeat
 
 module _ (given : List HostSeat) (c : ℕ) where
   pub known-here : c < length given → getD given c noHostSeat .state ≤ 2 → allKnown (drop c given) ≡ allKnown (drop (c + 1) given)

@@ -17,14 +17,13 @@ use Rattle.host.specs.declared.records.HostDesk.{HostDesk}
 use Rattle.host.specs.Records.{deskSeatOf, allKnown, deskOf, hostSeatIn, hostSeatOf, hostDeskOf}
 use Rattle.host.specs.Tidy.{TidySeat, atWork, elsewhere, Tidy}
 
-seat-in : (state : State) (seat : Seat)
-    → deskSeatOf (hostSeatIn state seat) ≡ record { state = state; choices = seat .choices; masks = seat .masks; trial = seat .trial }
-seat-in Closed seat = refl
-seat-in Ready seat = refl
-seat-in (AtWork place) seat = refl
-
 pub seat-and-back : (seat : Seat) → deskSeatOf (hostSeatOf seat) ≡ seat
-seat-and-back seat = seat-in (seat .state) seat
+seat-and-back seat = go (seat .state) refl
+  where
+    go : (state : State) → seat .state ≡ state → deskSeatOf (hostSeatOf seat) ≡ seat
+    go Closed e = rw e
+    go Ready e = rw e
+    go (AtWork place) e = rw e
 
 seats-and-back : (seats : List Seat) → map deskSeatOf (map hostSeatOf seats) ≡ seats
 seats-and-back [] = refl

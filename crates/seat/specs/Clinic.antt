@@ -29,8 +29,16 @@ noneLeft = replicate 16 0
 abbrev pub emptyShare : List ℕ
 emptyShare = replicate 4096 255
 
+-- a record with a state and choices, and nothing else in it
+abbrev pub freshSeat : State → List ℕ → Seat
+freshSeat state choices = record { state = state; choices = choices; masks = noneLeft; trial = nothing16 }
+
+-- another state, masks and trial; all else as it was
+abbrev pub seatWith : State → List ℕ → List ℕ → Seat → Seat
+seatWith state masks trial seat = record { state = state; choices = seat .choices; masks = masks; trial = trial }
+
 abbrev pub closedSeat : Seat
-closedSeat = record { state = Closed; choices = nothing16; masks = noneLeft; trial = nothing16 }
+closedSeat = freshSeat Closed nothing16
 
 abbrev pub closedClinic : Clinic
 closedClinic = record { seat = closedSeat; share = emptyShare }
@@ -49,18 +57,14 @@ exampleIn share i a = take 16 (drop (examplePlace i a) share)
 -- the example written, the bit set
 unfoldable pub withExample : ℕ → ℕ → List ℕ → Clinic → Clinic
 withExample i a example clinic = record {
-  seat = record {
-    state = clinic .seat .state;
-    choices = clinic .seat .choices;
-    masks = set (clinic .seat .masks) i (withBit (getD (clinic .seat .masks) i 0) a);
-    trial = clinic .seat .trial;
-  };
+  seat = seatWith (clinic .seat .state) (set (clinic .seat .masks) i (withBit (getD (clinic .seat .masks) i 0) a))
+      (clinic .seat .trial) (clinic .seat);
   share = put (clinic .share) (examplePlace i a) example;
 }
 
 -- another state and trial
 abbrev pub moved : State → List ℕ → Clinic → Clinic
 moved state trial clinic = record {
-  seat = record { state = state; choices = clinic .seat .choices; masks = clinic .seat .masks; trial = trial };
+  seat = seatWith state (clinic .seat .masks) trial (clinic .seat);
   share = clinic .share;
 }

@@ -11,7 +11,7 @@ use Rattle.catalogue.specs.Rule.{passes}
 use Rattle.seat.specs.declared.Place.{Place}
 use Rattle.seat.specs.declared.State.{State}
 use Rattle.seat.specs.declared.State.the-variants.{Closed, Ready, AtWork}
-use Rattle.seat.specs.Clinic.{Clinic, nothing16, noneLeft, emptyShare, withExample, moved}
+use Rattle.seat.specs.Clinic.{Clinic, nothing16, emptyShare, freshSeat, withExample, moved}
 use Rattle.seat.specs.Candidates.{firstCandidate, nextCandidate, chosenOtherwise}
 
 -- What comes of trying an option: the search goes on at a depth, with an option to be tried next there; or there is a
@@ -88,7 +88,7 @@ steps catalogue (suc n) clinic = steps catalogue n (step catalogue clinic)
 -- Posting a job under some choices: masks emptied, share filled with 255, pair (0, 0).
 unfoldable pub posted : List ℕ → List ℕ → Clinic
 posted sizes choices = record {
-  seat = record { state = started sizes choices 0 0; choices = choices; masks = noneLeft; trial = nothing16 };
+  seat = freshSeat (started sizes choices 0 0) choices;
   share = emptyShare;
 }
 

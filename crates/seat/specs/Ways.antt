@@ -17,7 +17,7 @@ use Rattle.seat.specs.declared.search.After.{After}
 use Rattle.seat.specs.declared.search.Way.{Way}
 use Rattle.seat.specs.declared.search.Way.the-variants.{GoOn, Build, Exhausted}
 use Rattle.seat.specs.Bits.{withBit}
-use Rattle.seat.specs.Clinic.{Clinic, clinicOf}
+use Rattle.seat.specs.Clinic.{Clinic, clinicOf, seatWith}
 use Rattle.seat.specs.Fit.{placeFits, seatFits}
 use Rattle.seat.specs.Step.{Tried, goOn, build, exhausted, stepAt, step}
 
@@ -81,12 +81,9 @@ masksWith found i a masks = cond found (set masks i (withBit (getD masks i 0) a)
 
 -- the record after a step, by what the step comes to
 abbrev pub recordAfter : After → Place → List ℕ → Seat → Seat
-recordAfter after place placed seat = record {
-  state = after .state;
-  choices = seat .choices;
-  masks = masksWith (after .found) (place .feature) (place .option) (seat .masks);
-  trial = keptBefore (after .depth) placed;
-}
+recordAfter after place placed seat =
+    seatWith (after .state) (masksWith (after .found) (place .feature) (place .option) (seat .masks))
+    (keptBefore (after .depth) placed) seat
 
 -- what a step comes to, for whichever record has these choices and this trial, whatever its masks; and the share after it
 abbrev pub ComesTo : Catalogue → Place → List ℕ → List ℕ → List ℕ → After → List ℕ → Type 0

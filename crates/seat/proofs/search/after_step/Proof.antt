@@ -144,7 +144,7 @@ returns-3 c =
     )
 
 returns-4 : tie.Need-returns-4
-unfolding afterTried pairEnded keptBefore
+unfolding afterTried pairEnded withExample keptBefore
 returns-4 c =
     let attempt = c .before .before .before in
     let none = c .before .enum-told2 .given .1 in (
