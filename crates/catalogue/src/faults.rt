@@ -5,9 +5,9 @@ ghost use mathlib.Core.Path.{_≡_};
 ghost use mathlib.Core.List.{[]};
 ghost use Prim.Native.Nat.{_≤_, _*_};
 ghost use lib.ListN.{length};
-ghost use Rattle.catalogue.specs.Fault.{sizesFault, member, featuresFault, rowFits, rowsFault};
-ghost use Rattle.catalogue.specs.Fault.{ruleFault, rulesFault, faultOf};
-ghost use Rattle.catalogue.specs.Catalogue.{arity, width};
+ghost use Rattle.builds.specs.Fault.{sizesFault, member, featuresFault, rowFits, rowsFault};
+ghost use Rattle.builds.specs.Fault.{ruleFault, rulesFault, faultOf};
+ghost use Rattle.builds.specs.Catalogue.{arity, width};
 
 // 10 to 18, or 0 for none.
 pub fn fault(sizes: &[u8], rules: &[u16]) -> u8

@@ -5,10 +5,10 @@ ghost use mathlib.Core.Path.{_≡_};
 ghost use mathlib.Core.Bool.{true};
 ghost use Prim.Native.Nat.{_≤_, _<_};
 ghost use lib.ListN.{length, getD, replicate};
-ghost use Rattle.catalogue.specs.Rule.{highest, matches, optionAt, optionsAt, satisfies, passes};
-ghost use Rattle.catalogue.specs.Catalogue.{featuresRead, ruleRead, rulesRead};
-ghost use Rattle.catalogue.specs.Starts.{wholeRule, wholeRules, EachBelow, FeaturesBelow, WholeRows};
-ghost use Rattle.catalogue.specs.Starts.{RowTest, startsAt, AllStarts};
+ghost use Rattle.builds.specs.Rule.{highest, matches, optionAt, optionsAt, satisfies, passes};
+ghost use Rattle.builds.specs.Catalogue.{featuresRead, ruleRead, rulesRead};
+ghost use Rattle.builds.specs.inner.Starts.{wholeRule, wholeRules, EachBelow, FeaturesBelow, WholeRows};
+ghost use Rattle.builds.specs.inner.Starts.{RowTest, startsAt, AllStarts};
 
 // Whether what is placed passes the test at feature j: it satisfies each rule whose highest-numbered feature is j.
 pub fn passes(rules: &[u16], j: usize, starts: &[u16], placed: &[u8]) -> bool

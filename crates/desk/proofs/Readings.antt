@@ -10,16 +10,16 @@ use lib.ListN.{length, getD, take, drop, take-append-drop}
 use lib.Seq.{drop-drop}
 use lib.Dec.{leb}
 use lib.Pow.{pow-mono}
-use Rattle.catalogue.specs.Catalogue.{Catalogue}
-use Rattle.seat.specs.Clinic.{examplePlace, exampleIn}
-use Rattle.seat.specs.Fit.{everyBelow, seatFits}
-use Rattle.seat.proofs.Fits.{every-below, seat-fits}
-use Rattle.seat.proofs.ExamplePlaces.{from-front}
-use Rattle.desk.specs.declared.Desk.{Desk}
-use Rattle.desk.specs.Room.{seatAt, shareAt}
-use Rattle.desk.specs.Fit.{deskFits}
-use Rattle.desk.proofs.NamedBounds.{FeatureBounds}
-use Rattle.desk.proofs.WithClinic.{share-length}
+use Rattle.builds.specs.Catalogue.{Catalogue}
+use Rattle.search.specs.Clinic.{examplePlace, exampleIn}
+use Rattle.search.specs.Fit.{everyBelow, seatFits}
+use Rattle.search.proofs.Fits.{every-below, seat-fits}
+use Rattle.search.proofs.ExamplePlaces.{from-front}
+use Rattle.runs.specs.declared.Desk.{Desk}
+use Rattle.runs.specs.Room.{seatAt, shareAt}
+use Rattle.runs.specs.Fit.{deskFits}
+use Rattle.runs.proofs.NamedBounds.{FeatureBounds}
+use Rattle.runs.proofs.WithClinic.{share-length}
 
 module _ (catalogue : Catalogue) (desk : Desk) (fits : deskFits catalogue desk ≡ true) where
   seat-of-it : (c : ℕ) → c < 8 → seatFits catalogue (seatAt desk c) ≡ true

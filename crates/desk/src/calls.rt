@@ -1,20 +1,20 @@
 // The calls that open the desk or change one seat. A call for a seat lends on that seat's 4,096 bytes alone.
-use crate::Desk;
-use crate::answers::Changed;
-use crate::checks::choose_number;
-use crate::checks::enter_number;
-use crate::checks::leave_number;
-use crate::checks::open_number;
-use crate::checks::relax_number;
-use seat::Seat;
+use checks::choose_number;
+use checks::enter_number;
+use checks::leave_number;
+use checks::open_number;
+use checks::relax_number;
+use runs::Changed;
+use runs::Desk;
+use search::Seat;
 ghost use mathlib.Core.Path.{_≡_};
 ghost use Prim.Native.Nat.{_<_};
 ghost use lib.ListN.{set};
-ghost use Rattle.catalogue.specs.Catalogue.{catalogueOf};
-ghost use Rattle.desk.specs.Call.{enter, leave, choose, relax};
-ghost use Rattle.desk.specs.Answers.{ChangesTo};
-ghost use Rattle.desk.specs.Room.{freshDesk};
-ghost use Rattle.desk.specs.Perform.{performed, opening};
+ghost use Rattle.builds.specs.Catalogue.{catalogueOf};
+ghost use Rattle.runs.specs.Call.{enter, leave, choose, relax};
+ghost use Rattle.runs.specs.Answers.{ChangesTo};
+ghost use Rattle.runs.specs.Room.{freshDesk};
+ghost use Rattle.runs.specs.Perform.{performed, opening};
 
 // The board filled with 255, all seats closed, next seat 0.
 pub fn open(board: &mut [u8], sizes: &[u8], rules: &[u16]) -> Changed

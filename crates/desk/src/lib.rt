@@ -9,15 +9,10 @@
 //     │      leave      │   └──────── choose, relax ──────┘ │
 //     └─────────────────┴───────────────────────────────────┘
 //                                leave
-mod answers;
 mod calls;
-mod checks;
 mod reading;
-mod ring;
+mod turning;
 
-pub use answers::Changed;
-pub use answers::Left;
-pub use answers::Turned;
 pub use calls::choose;
 pub use calls::enter;
 pub use calls::leave;
@@ -26,10 +21,8 @@ pub use calls::relax;
 pub use reading::example;
 pub use reading::example_number;
 pub use reading::options;
-pub use ring::turns;
-use seat::Seat;
-
-pub struct Desk {
-    pub seats: [Seat; 8],
-    pub next: u8, // where the next turn begins to look for a seat at work
-}
+pub use runs::Changed;
+pub use runs::Desk;
+pub use runs::Left;
+pub use runs::Turned;
+pub use turning::turns;

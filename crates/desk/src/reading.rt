@@ -1,13 +1,13 @@
 // The calls that read a ready seat.
-use crate::Desk;
-use crate::answers::Left;
-use crate::checks::example_refusal;
-use crate::checks::options_number;
+use checks::example_refusal;
+use checks::options_number;
+use runs::Desk;
+use runs::Left;
 ghost use mathlib.Core.Path.{_≡_};
-ghost use Rattle.desk.specs.Call.{options, example};
-ghost use Rattle.desk.specs.Answers.{ReadsAs, exampleBegins};
-ghost use Rattle.desk.specs.Perform.{performed};
-ghost use Rattle.desk.specs.Room.{roomOf};
+ghost use Rattle.runs.specs.Call.{options, example};
+ghost use Rattle.runs.specs.Answers.{ReadsAs, exampleBegins};
+ghost use Rattle.runs.specs.Perform.{performed};
+ghost use Rattle.runs.specs.Room.{roomOf};
 
 // The mask of one feature and how many bits are set in it.
 pub fn options(desk: Desk, board: &[u8], sizes: &[u8], rules: &[u16], c: usize, i: usize) -> Left

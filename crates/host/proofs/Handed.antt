@@ -8,16 +8,16 @@ use mathlib.Core.List.{List}
 use native.Mathlib.Omega.{arith}
 use lib.ListN.{length}
 use lib.Dec.{eqb}
-use Rattle.catalogue.specs.Catalogue.{Catalogue}
-use Rattle.catalogue.specs.Checks.{when, orElse}
-use Rattle.catalogue.specs.Fault.{faultOf}
-use Rattle.desk.specs.declared.Desk.{Desk}
-use Rattle.desk.specs.Fit.{deskFits}
-use Rattle.desk.specs.Room.{Room}
-use Rattle.desk.specs.Call.{Call, refused}
-use Rattle.desk.specs.Refusal.{refusal, openRefusal}
-use Rattle.desk.specs.Perform.{Outcome, perform}
-use Rattle.desk.proofs.Performed.{perform-number, perform-refused}
+use Rattle.builds.specs.Catalogue.{Catalogue}
+use Rattle.builds.specs.Checks.{when, orElse}
+use Rattle.builds.specs.Fault.{faultOf}
+use Rattle.runs.specs.declared.Desk.{Desk}
+use Rattle.runs.specs.Fit.{deskFits}
+use Rattle.runs.specs.Room.{Room}
+use Rattle.runs.specs.Call.{Call, refused}
+use Rattle.runs.specs.Refusal.{refusal, openRefusal}
+use Rattle.runs.specs.Perform.{Outcome, perform}
+use Rattle.runs.proofs.Performed.{perform-number, perform-refused}
 use Rattle.host.specs.declared.records.HostDesk.{HostDesk}
 use Rattle.host.specs.Records.{allKnown, deskOf, hostDeskOf}
 use Rattle.host.specs.Door.{deskBack, inside, outside, throughDoor}

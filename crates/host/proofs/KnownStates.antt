@@ -8,7 +8,7 @@ use borrow.Author.Tests.{le-leb, lt-leb}
 use lib.ListN.{length, getD, drop, drop-of-length-le}
 use lib.Seq.{drop-cons}
 use Rattle.host.specs.declared.records.HostSeat.{HostSeat}
-use Rattle.seat.specs.Clinic.{noSeat}
+use Rattle.search.specs.Clinic.{noSeat}
 use Rattle.host.specs.Records.{hostSeatOf, allKnown}
 
 -- what is read past the eight seats; of no account

@@ -3,9 +3,9 @@
 use Prim.Native.Nat.{ℕ}
 use mathlib.Core.Path.{_≡_, sym, ap, _∙_}
 use mathlib.Core.List.{List}
-use Rattle.catalogue.specs.Catalogue.{Catalogue}
-use Rattle.desk.specs.Call.{Answer, enter, leave, choose, relax, options, example, turns}
-use Rattle.desk.proofs.Settled.{Settled, SettledWithBoard}
+use Rattle.builds.specs.Catalogue.{Catalogue}
+use Rattle.runs.specs.Call.{Answer, enter, leave, choose, relax, options, example, turns}
+use Rattle.runs.proofs.Settled.{Settled, SettledWithBoard}
 use Rattle.host.specs.declared.records.HostDesk.{HostDesk}
 use Rattle.host.specs.declared.records.HostChanged.{HostChanged}
 use Rattle.host.specs.declared.records.HostLeft.{HostLeft}

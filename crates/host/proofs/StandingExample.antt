@@ -4,15 +4,15 @@ use mathlib.Core.Path.{_≡_, refl, sym, _∙_}
 use mathlib.Core.List.{[]}
 use native.Mathlib.Omega.{arith}
 use lib.ListN.{take, drop}
-use Rattle.catalogue.specs.Catalogue.{Catalogue}
-use Rattle.catalogue.specs.Fault.{member}
-use Rattle.desk.specs.Room.{Room}
-use Rattle.desk.specs.Call.{example}
-use Rattle.desk.specs.Refusal.{refusal}
-use Rattle.desk.specs.Perform.{Outcome, done, perform}
-use Rattle.desk.proofs.AcceptedCalls.{accepted}
-use Rattle.desk.proofs.NamedBounds.{feature-bounds}
-use Rattle.desk.proofs.Performed.{perform-number, perform-accepted, perform-refused}
+use Rattle.builds.specs.Catalogue.{Catalogue}
+use Rattle.builds.specs.Fault.{member}
+use Rattle.runs.specs.Room.{Room}
+use Rattle.runs.specs.Call.{example}
+use Rattle.runs.specs.Refusal.{refusal}
+use Rattle.runs.specs.Perform.{Outcome, done, perform}
+use Rattle.runs.proofs.AcceptedCalls.{accepted}
+use Rattle.runs.proofs.NamedBounds.{feature-bounds}
+use Rattle.runs.proofs.Performed.{perform-number, perform-accepted, perform-refused}
 use Rattle.desk.proofs.Readings.{example-on-board}
 use Rattle.host.specs.Door.{exampleStands}
 

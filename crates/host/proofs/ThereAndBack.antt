@@ -7,11 +7,11 @@ use mathlib.Core.List.{List, [], _∷_, map}
 use native.Mathlib.Omega.{arith}
 use lib.Dec.{leb}
 use borrow.Author.Tests.{le-leb}
-use Rattle.catalogue.specs.Every.{Every, none, also}
-use Rattle.seat.specs.declared.Seat.{Seat}
-use Rattle.seat.specs.declared.State.{State}
-use Rattle.seat.specs.declared.State.the-variants.{Closed, Ready, AtWork}
-use Rattle.desk.specs.declared.Desk.{Desk}
+use Rattle.builds.specs.Every.{Every, none, also}
+use Rattle.search.specs.declared.Seat.{Seat}
+use Rattle.search.specs.declared.State.{State}
+use Rattle.search.specs.declared.State.the-variants.{Closed, Ready, AtWork}
+use Rattle.runs.specs.declared.Desk.{Desk}
 use Rattle.host.specs.declared.records.HostSeat.{HostSeat}
 use Rattle.host.specs.declared.records.HostDesk.{HostDesk}
 use Rattle.host.specs.Records.{deskSeatOf, allKnown, deskOf, hostSeatIn, hostSeatOf, hostDeskOf}

@@ -2,10 +2,10 @@
 use Prim.Native.Nat.{ℕ, zero, suc}
 use mathlib.Core.Path.{_≡_, refl, ap, _∙_}
 use mathlib.Core.List.{List}
-use Rattle.catalogue.specs.Catalogue.{Catalogue}
-use Rattle.desk.specs.declared.Desk.{Desk}
-use Rattle.desk.specs.Call.{Call}
-use Rattle.desk.specs.Perform.{Outcome, perform}
+use Rattle.builds.specs.Catalogue.{Catalogue}
+use Rattle.runs.specs.declared.Desk.{Desk}
+use Rattle.runs.specs.Call.{Call}
+use Rattle.runs.specs.Perform.{Outcome, perform}
 use Rattle.host.specs.declared.records.HostDesk.{HostDesk}
 use Rattle.host.specs.Records.{deskOf}
 use Rattle.host.specs.Door.{deskBack, inside, handedBack, throughDoor}

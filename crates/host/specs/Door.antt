@@ -3,10 +3,10 @@
 use Prim.Native.Nat.{ℕ, zero, suc, _+_, _*_}
 use mathlib.Core.List.{List, []}
 use mathlib.Core.Bool.{false}
-use Rattle.catalogue.specs.Catalogue.{Catalogue}
-use Rattle.desk.specs.declared.Desk.{Desk}
-use Rattle.desk.specs.Call.{Call, Answer, refused}
-use Rattle.desk.specs.Perform.{Outcome, perform, opening}
+use Rattle.builds.specs.Catalogue.{Catalogue}
+use Rattle.runs.specs.declared.Desk.{Desk}
+use Rattle.runs.specs.Call.{Call, Answer, refused}
+use Rattle.runs.specs.Perform.{Outcome, perform, opening}
 use Rattle.host.specs.declared.records.HostDesk.{HostDesk}
 use Rattle.host.specs.declared.records.HostChanged.{HostChanged}
 use Rattle.host.specs.declared.records.HostLeft.{HostLeft}

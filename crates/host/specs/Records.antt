@@ -3,11 +3,11 @@ use Prim.Native.Nat.{ℕ}
 use mathlib.Core.Bool.{Bool, true, cond, _&&_}
 use mathlib.Core.List.{List, [], _∷_, map}
 use lib.Dec.{eqb, leb}
-use Rattle.seat.specs.declared.Place.{Place}
-use Rattle.seat.specs.declared.Seat.{Seat}
-use Rattle.seat.specs.declared.State.{State}
-use Rattle.seat.specs.declared.State.the-variants.{Closed, Ready, AtWork}
-use Rattle.desk.specs.declared.Desk.{Desk}
+use Rattle.search.specs.declared.Place.{Place}
+use Rattle.search.specs.declared.Seat.{Seat}
+use Rattle.search.specs.declared.State.{State}
+use Rattle.search.specs.declared.State.the-variants.{Closed, Ready, AtWork}
+use Rattle.runs.specs.declared.Desk.{Desk}
 use Rattle.host.specs.declared.records.HostSeat.{HostSeat}
 use Rattle.host.specs.declared.records.HostDesk.{HostDesk}
 

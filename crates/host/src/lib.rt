@@ -17,8 +17,8 @@ pub use records::HostSeat;
 pub use records::HostTurned;
 ghost use mathlib.Core.Path.{_≡_};
 ghost use lib.ListN.{take, drop};
-ghost use Rattle.catalogue.specs.Catalogue.{catalogueOf};
-ghost use Rattle.desk.specs.Call.{enter, leave, choose, relax, options, example, turns};
+ghost use Rattle.builds.specs.Catalogue.{catalogueOf};
+ghost use Rattle.runs.specs.Call.{enter, leave, choose, relax, options, example, turns};
 ghost use Rattle.host.specs.Door.{inside, throughDoor, openedDoor, hostChangedOutcome};
 ghost use Rattle.host.specs.Door.{hostLeftAnswer, hostTurnedOutcome, exampleStands};
 

@@ -3,13 +3,13 @@
 use Prim.Native.Nat.{ℕ, _<_}
 use mathlib.Core.Path.{_≡_}
 use mathlib.Core.Bool.{true}
-use Rattle.catalogue.specs.Catalogue.{Catalogue}
-use Rattle.desk.specs.Room.{Room, seatAt}
-use Rattle.desk.specs.Fit.{deskFits}
-use Rattle.seat.proofs.ClinicFits.{Sixteen}
-use Rattle.desk.proofs.Sound.{Sound, fits-sound}
-use Rattle.desk.proofs.OthersStay.{call-stays, turn-steps, turn-stays, turn-next}
-use Rattle.desk.proofs.TurnsAdded.{turns-added}
+use Rattle.builds.specs.Catalogue.{Catalogue}
+use Rattle.runs.specs.Room.{Room, seatAt}
+use Rattle.runs.specs.Fit.{deskFits}
+use Rattle.search.proofs.ClinicFits.{Sixteen}
+use Rattle.runs.proofs.Sound.{Sound, fits-sound}
+use Rattle.runs.proofs.OthersStay.{call-stays, turn-steps, turn-stays, turn-next}
+use Rattle.runs.proofs.TurnsAdded.{turns-added}
 use Rattle.promises.specs.Frame.{Whole, Frame}
 
 module _ (room : Room) (whole : Whole room) where

@@ -9,20 +9,20 @@ use mathlib.Core.Bool.{true}
 use mathlib.Core.List.{List}
 use native.Mathlib.Omega.{arith}
 use lib.ListN.{length, getD}
-use Rattle.catalogue.specs.Rule.{optionAt}
-use Rattle.catalogue.specs.Catalogue.{Catalogue}
-use Rattle.catalogue.specs.Fault.{faultOf}
-use Rattle.catalogue.specs.Build.{IsBuild}
-use Rattle.catalogue.proofs.Padded.{nothing-there}
-use Rattle.seat.specs.Bits.{hasBit}
-use Rattle.seat.specs.Clinic.{Clinic, nothing16, noneLeft}
-use Rattle.seat.specs.Step.{steps, posted}
-use Rattle.seat.specs.Count.{jobSteps}
-use Rattle.seat.proofs.Fitting.{ChoicesFit}
-use Rattle.seat.proofs.PairSteps.{same-again}
-use Rattle.seat.proofs.StepWrites.{Blank, Shows, shows-on, blank-or-shows}
-use Rattle.seat.proofs.ReadyJob as ready-job
-use Rattle.desk.specs.Room.{clinicAt}
+use Rattle.builds.specs.Rule.{optionAt}
+use Rattle.builds.specs.Catalogue.{Catalogue}
+use Rattle.builds.specs.Fault.{faultOf}
+use Rattle.builds.specs.Build.{IsBuild}
+use Rattle.builds.proofs.Padded.{nothing-there}
+use Rattle.search.specs.Bits.{hasBit}
+use Rattle.search.specs.Clinic.{Clinic, nothing16, noneLeft}
+use Rattle.search.specs.Step.{steps, posted}
+use Rattle.search.specs.Count.{jobSteps}
+use Rattle.search.proofs.Fitting.{ChoicesFit}
+use Rattle.search.proofs.PairSteps.{same-again}
+use Rattle.search.proofs.StepWrites.{Blank, Shows, shows-on, blank-or-shows}
+use Rattle.search.proofs.ReadyJob as ready-job
+use Rattle.runs.specs.Room.{clinicAt}
 use Rattle.promises.specs.Moment.{moment}
 use Rattle.promises.specs.InARun.{EveryRun}
 use Rattle.promises.proofs.SoundMoments.{opened-faultless, sound-moment}

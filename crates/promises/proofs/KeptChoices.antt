@@ -9,10 +9,10 @@ use lib.ListN.{length, getD, set}
 use lib.Seq.{getD-set-same, getD-set-other}
 use lib.Dec.{eqb}
 use borrow.Author.Tests.{eqb-true, eqb-false}
-use Rattle.catalogue.specs.Rule.{optionAt}
-use Rattle.catalogue.specs.Catalogue.{Catalogue}
-use Rattle.catalogue.specs.Build.{IsBuild}
-use Rattle.seat.proofs.Fitting.{ChoicesFit}
+use Rattle.builds.specs.Rule.{optionAt}
+use Rattle.builds.specs.Catalogue.{Catalogue}
+use Rattle.builds.specs.Build.{IsBuild}
+use Rattle.search.proofs.Fitting.{ChoicesFit}
 
 pub data Kept (catalogue : Catalogue) (choices : List ℕ) : Type 0 where
   no-choice : ((f : ℕ) → getD choices f 255 ≡ 255) → Kept catalogue choices

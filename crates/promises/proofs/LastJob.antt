@@ -7,20 +7,20 @@ use mathlib.Core.List.{List, [], _∷_}
 use native.Mathlib.Omega.{arith}
 use lib.ListN.{length}
 use lib.Dec.{ltb}
-use Rattle.catalogue.specs.Catalogue.{Catalogue, sizeOf}
-use Rattle.catalogue.specs.Every.{Every, none, also}
-use Rattle.catalogue.specs.Checks.{when, first}
-use Rattle.catalogue.specs.Fault.{member}
-use Rattle.seat.specs.declared.Seat.{Seat}
-use Rattle.seat.specs.Look.{isClosed, isAtWork, hasChoice, isLeft}
-use Rattle.seat.specs.Count.{jobSteps}
-use Rattle.seat.proofs.ReadyJob.{job-ready-after}
-use Rattle.desk.specs.Room.{Room}
-use Rattle.desk.specs.Call.{Call, seatOf, featureOf, optionOf}
-use Rattle.desk.specs.Refusal.{rowsFor, row}
-use Rattle.desk.specs.Perform.{perform}
-use Rattle.desk.proofs.ChecksPassed.{checks-passed}
-use Rattle.desk.proofs.Performed.{perform-number}
+use Rattle.builds.specs.Catalogue.{Catalogue, sizeOf}
+use Rattle.builds.specs.Every.{Every, none, also}
+use Rattle.builds.specs.Checks.{when, first}
+use Rattle.builds.specs.Fault.{member}
+use Rattle.search.specs.declared.Seat.{Seat}
+use Rattle.search.specs.Look.{isClosed, isAtWork, hasChoice, isLeft}
+use Rattle.search.specs.Count.{jobSteps}
+use Rattle.search.proofs.ReadyJob.{job-ready-after}
+use Rattle.runs.specs.Room.{Room}
+use Rattle.runs.specs.Call.{Call, seatOf, featureOf, optionOf}
+use Rattle.runs.specs.Refusal.{rowsFor, row}
+use Rattle.runs.specs.Perform.{perform}
+use Rattle.runs.proofs.ChecksPassed.{checks-passed}
+use Rattle.runs.proofs.Performed.{perform-number}
 use Rattle.promises.specs.Moment.{moment, Opened, seatIn}
 use Rattle.promises.specs.LastJob.{LastJob}
 use Rattle.promises.proofs.SoundMoments.{opened-faultless, sound-moment}

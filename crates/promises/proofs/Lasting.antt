@@ -10,28 +10,28 @@ use native.Mathlib.Omega.{arith}
 use lib.ListN.{length, set, length-replicate}
 use lib.Dec.{eqb}
 use borrow.Author.Tests.{eqb-true, eqb-false}
-use Rattle.catalogue.specs.Catalogue.{Catalogue}
-use Rattle.catalogue.specs.Fault.{faultOf, member}
-use Rattle.seat.specs.declared.State.{State}
-use Rattle.seat.specs.declared.State.the-variants.{Closed, Ready, AtWork}
-use Rattle.seat.specs.Look.{isClosed, isAtWork, isLeft}
-use Rattle.seat.specs.Clinic.{Clinic, closedClinic}
-use Rattle.seat.specs.Step.{step, posted}
-use Rattle.seat.proofs.ClinicFits.{ClinicFits}
-use Rattle.seat.proofs.StepFits.{step-fits}
-use Rattle.desk.specs.Room.{Room, clinicAt, withClinic}
-use Rattle.desk.specs.Call.{Call, enter, leave, choose, relax, options, example, turns}
-use Rattle.desk.specs.Turn.{seatAfter, served, turnFor, turn, afterTurns}
-use Rattle.desk.specs.Refusal.{refusal}
-use Rattle.desk.specs.Perform.{choicesOf, done, perform, opening}
-use Rattle.desk.specs.Run.{afterCalls}
-use Rattle.desk.proofs.WithClinic.{fresh-clinic, with-same, with-other}
-use Rattle.desk.proofs.Served.{served-found}
-use Rattle.desk.proofs.Sound.{Sound, turn-sound}
-use Rattle.desk.proofs.OthersStay.{posted-bytes}
-use Rattle.desk.proofs.Performed.{after-call, opening-accepted}
-use Rattle.desk.proofs.AcceptedCalls.{accepted}
-use Rattle.desk.proofs.SoundRuns.{call-sound, opening-sound}
+use Rattle.builds.specs.Catalogue.{Catalogue}
+use Rattle.builds.specs.Fault.{faultOf, member}
+use Rattle.search.specs.declared.State.{State}
+use Rattle.search.specs.declared.State.the-variants.{Closed, Ready, AtWork}
+use Rattle.search.specs.Look.{isClosed, isAtWork, isLeft}
+use Rattle.search.specs.Clinic.{Clinic, closedClinic}
+use Rattle.search.specs.Step.{step, posted}
+use Rattle.search.proofs.ClinicFits.{ClinicFits}
+use Rattle.search.proofs.StepFits.{step-fits}
+use Rattle.runs.specs.Room.{Room, clinicAt, withClinic}
+use Rattle.runs.specs.Call.{Call, enter, leave, choose, relax, options, example, turns}
+use Rattle.runs.specs.Turn.{seatAfter, served, turnFor, turn, afterTurns}
+use Rattle.runs.specs.Refusal.{refusal}
+use Rattle.runs.specs.Perform.{choicesOf, done, perform, opening}
+use Rattle.runs.specs.Run.{afterCalls}
+use Rattle.runs.proofs.WithClinic.{fresh-clinic, with-same, with-other}
+use Rattle.runs.proofs.Served.{served-found}
+use Rattle.runs.proofs.Sound.{Sound, turn-sound}
+use Rattle.runs.proofs.OthersStay.{posted-bytes}
+use Rattle.runs.proofs.Performed.{after-call, opening-accepted}
+use Rattle.runs.proofs.AcceptedCalls.{accepted}
+use Rattle.runs.proofs.SoundRuns.{call-sound, opening-sound}
 use Rattle.promises.specs.Moment.{moment, Opened}
 use Rattle.promises.proofs.SoundMoments.{not-refused, opened-faultless}
 

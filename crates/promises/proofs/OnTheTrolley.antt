@@ -10,22 +10,22 @@ use native.Mathlib.Nat.{le-of-suc-le-suc, not-suc-le-zero}
 use native.Mathlib.Omega.{arith}
 use lib.ListN.{length, getD, replicate}
 use lib.Dec.{lit<}
-use Rattle.catalogue.specs.Every.{none, also}
-use Rattle.catalogue.specs.Rule.{optionAt}
-use Rattle.catalogue.specs.Build.{IsBuild, BuildWith}
-use Rattle.catalogue.proofs.Padded.{nothing-there}
-use Rattle.seat.specs.declared.State.the-variants.{Ready}
-use Rattle.seat.specs.Bits.{hasBit}
-use Rattle.seat.specs.Clinic.{Clinic, nothing16}
-use Rattle.seat.specs.Step.{steps, posted, ReadyAfter}
-use Rattle.seat.proofs.ReadyOnce.{ready-once}
-use Rattle.seat.proofs.ReadyJob.{job-ready-after}
-use Rattle.desk.specs.Room.{clinicAt}
-use Rattle.desk.specs.Call.{Call, enter, choose, options, turns}
-use Rattle.desk.specs.Perform.{perform}
-use Rattle.desk.specs.Run.{job}
-use Rattle.worked.specs.Trolley.{trolley}
-use Rattle.worked.proofs.Computing.{computing}
+use Rattle.builds.specs.Every.{none, also}
+use Rattle.builds.specs.Rule.{optionAt}
+use Rattle.builds.specs.Build.{IsBuild, BuildWith}
+use Rattle.builds.proofs.Padded.{nothing-there}
+use Rattle.search.specs.declared.State.the-variants.{Ready}
+use Rattle.search.specs.Bits.{hasBit}
+use Rattle.search.specs.Clinic.{Clinic, nothing16}
+use Rattle.search.specs.Step.{steps, posted, ReadyAfter}
+use Rattle.search.proofs.ReadyOnce.{ready-once}
+use Rattle.search.proofs.ReadyJob.{job-ready-after}
+use Rattle.runs.specs.Room.{clinicAt}
+use Rattle.runs.specs.Call.{Call, enter, choose, options, turns}
+use Rattle.runs.specs.Perform.{perform}
+use Rattle.runs.specs.Run.{job}
+use Rattle.search.specs.Trolley.{trolley}
+use Rattle.runs.proofs.Computing.{computing}
 use Rattle.promises.specs.Moment.{moment, Opened, seatIn}
 use Rattle.promises.specs.Refusals.{Refusals, Gives, this, next}
 use Rattle.promises.specs.OptionsLeft.{OptionsLeft}

@@ -9,25 +9,25 @@ use mathlib.Core.List.{List, [], _∷_}
 use native.Mathlib.Omega.{arith}
 use lib.ListN.{length, getD}
 use borrow.Author.Tests.{lt-ltb, le-ltb}
-use Rattle.catalogue.specs.Catalogue.{Catalogue, sizeOf}
-use Rattle.catalogue.specs.Checks.{when, first}
-use Rattle.catalogue.specs.Fault.{faultOf, member}
-use Rattle.catalogue.specs.Rule.{optionAt}
-use Rattle.catalogue.specs.Gic.{Gic}
-use Rattle.seat.specs.declared.State.the-variants.{Ready}
-use Rattle.seat.specs.Bits.{hasBit}
-use Rattle.seat.specs.Look.{isLeft}
-use Rattle.seat.specs.Clinic.{Clinic, exampleIn}
-use Rattle.seat.proofs.Fitting.{ChoicesFit}
-use Rattle.seat.proofs.PlaceBounds.{few-features, size-within}
-use Rattle.seat.proofs.ReadyJob as ready-job
-use Rattle.desk.specs.Room.{Room, shareAt, clinicAt}
-use Rattle.desk.specs.Call.{Call, options, example, refused, Answer}
-use Rattle.desk.specs.Refusal.{refusal}
-use Rattle.desk.specs.Perform.{Outcome, optionsAnswer, exampleAnswer, done, perform, opening}
-use Rattle.desk.proofs.Sound.{Sound}
-use Rattle.desk.proofs.ChecksPassed.{checks-passed}
-use Rattle.desk.proofs.Performed.{perform-accepted, perform-refused}
+use Rattle.builds.specs.Catalogue.{Catalogue, sizeOf}
+use Rattle.builds.specs.Checks.{when, first}
+use Rattle.builds.specs.Fault.{faultOf, member}
+use Rattle.builds.specs.Rule.{optionAt}
+use Rattle.builds.specs.Gic.{Gic}
+use Rattle.search.specs.declared.State.the-variants.{Ready}
+use Rattle.search.specs.Bits.{hasBit}
+use Rattle.search.specs.Look.{isLeft}
+use Rattle.search.specs.Clinic.{Clinic, exampleIn}
+use Rattle.search.proofs.Fitting.{ChoicesFit}
+use Rattle.search.proofs.PlaceBounds.{few-features, size-within}
+use Rattle.search.proofs.ReadyJob as ready-job
+use Rattle.runs.specs.Room.{Room, shareAt, clinicAt}
+use Rattle.runs.specs.Call.{Call, options, example, refused, Answer}
+use Rattle.runs.specs.Refusal.{refusal}
+use Rattle.runs.specs.Perform.{Outcome, optionsAnswer, exampleAnswer, done, perform, opening}
+use Rattle.runs.proofs.Sound.{Sound}
+use Rattle.runs.proofs.ChecksPassed.{checks-passed}
+use Rattle.runs.proofs.Performed.{perform-accepted, perform-refused}
 use Rattle.promises.specs.Moment.{moment, Opened, seatIn}
 use Rattle.promises.specs.OptionsLeft.{Shown, OptionsLeft, GloballyConsistent}
 use Rattle.promises.proofs.SoundMoments.{opened-faultless, sound-moment}

@@ -10,23 +10,23 @@ use native.Mathlib.Nat.{add-zero, add-assoc}
 use native.Mathlib.Omega.{arith}
 use lib.Dec.{eqb}
 use borrow.Author.Tests.{eqb-true, eqb-false}
-use Rattle.catalogue.specs.Every.{Every}
-use Rattle.catalogue.specs.Catalogue.{Catalogue}
-use Rattle.catalogue.specs.Fault.{faultOf}
-use Rattle.seat.specs.Clinic.{Clinic}
-use Rattle.seat.specs.Step.{steps, posted, ReadyAfter}
-use Rattle.desk.specs.Room.{Room, clinicAt}
-use Rattle.desk.specs.Call.{Call, isOf}
-use Rattle.desk.specs.Turn.{isAtWork, served, is, turn, afterTurns, seatAfter}
-use Rattle.desk.specs.Perform.{perform}
-use Rattle.desk.specs.Run.{job, afterCalls, turnsAsked, allTurnsAsked}
-use Rattle.desk.proofs.Sound.{Sound, turn-sound}
-use Rattle.desk.proofs.SoundRuns.{call-sound}
-use Rattle.desk.proofs.ChecksPassed.{turns-accepted}
-use Rattle.desk.proofs.OthersStay.{call-stays, turn-next}
-use Rattle.desk.proofs.TurnsAdded.{turns-performed}
-use Rattle.desk.proofs.CallKinds.{Kind, of-turns, of-a-seat, kind}
-use Rattle.desk.proofs.RingAhead.{ahead, full-round, served-ahead}
+use Rattle.builds.specs.Every.{Every}
+use Rattle.builds.specs.Catalogue.{Catalogue}
+use Rattle.builds.specs.Fault.{faultOf}
+use Rattle.search.specs.Clinic.{Clinic}
+use Rattle.search.specs.Step.{steps, posted, ReadyAfter}
+use Rattle.runs.specs.Room.{Room, clinicAt}
+use Rattle.runs.specs.Call.{Call, isOf}
+use Rattle.runs.specs.Turn.{isAtWork, served, is, turn, afterTurns, seatAfter}
+use Rattle.runs.specs.Perform.{perform}
+use Rattle.runs.specs.Run.{job, afterCalls, turnsAsked, allTurnsAsked}
+use Rattle.runs.proofs.Sound.{Sound, turn-sound}
+use Rattle.runs.proofs.SoundRuns.{call-sound}
+use Rattle.runs.proofs.ChecksPassed.{turns-accepted}
+use Rattle.runs.proofs.OthersStay.{call-stays, turn-next}
+use Rattle.runs.proofs.TurnsAdded.{turns-performed}
+use Rattle.runs.proofs.CallKinds.{Kind, of-turns, of-a-seat, kind}
+use Rattle.runs.proofs.RingAhead.{ahead, full-round, served-ahead}
 use Rattle.promises.specs.SearchState.{Stands}
 use Rattle.promises.proofs.Standing.{in-the-search, turn-stands}
 

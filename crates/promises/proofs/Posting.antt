@@ -5,19 +5,19 @@ use mathlib.Core.Path.{_≡_, refl, sym, ap, _∙_}
 use mathlib.Core.List.{List, [], _∷_}
 use native.Mathlib.Omega.{arith}
 use lib.ListN.{length, getD, set, replicate, length-replicate}
-use Rattle.catalogue.specs.Catalogue.{Catalogue}
-use Rattle.catalogue.specs.Fault.{member}
-use Rattle.seat.specs.Clinic.{Clinic, nothing16, closedClinic}
-use Rattle.seat.specs.Step.{posted}
-use Rattle.seat.proofs.Fits.{seat-fits}
-use Rattle.desk.specs.Room.{Room, clinicAt, withClinic}
-use Rattle.desk.specs.Call.{Call, enter, leave, choose, relax}
-use Rattle.desk.specs.Refusal.{refusal}
-use Rattle.desk.specs.Perform.{Outcome, perform, done, choicesOf}
-use Rattle.desk.proofs.Performed.{perform-number, perform-accepted}
-use Rattle.desk.proofs.AcceptedCalls.{accepted}
-use Rattle.desk.proofs.WithClinic.{with-same}
-use Rattle.desk.proofs.OthersStay.{posted-bytes}
+use Rattle.builds.specs.Catalogue.{Catalogue}
+use Rattle.builds.specs.Fault.{member}
+use Rattle.search.specs.Clinic.{Clinic, nothing16, closedClinic}
+use Rattle.search.specs.Step.{posted}
+use Rattle.search.proofs.Fits.{seat-fits}
+use Rattle.runs.specs.Room.{Room, clinicAt, withClinic}
+use Rattle.runs.specs.Call.{Call, enter, leave, choose, relax}
+use Rattle.runs.specs.Refusal.{refusal}
+use Rattle.runs.specs.Perform.{Outcome, perform, done, choicesOf}
+use Rattle.runs.proofs.Performed.{perform-number, perform-accepted}
+use Rattle.runs.proofs.AcceptedCalls.{accepted}
+use Rattle.runs.proofs.WithClinic.{with-same}
+use Rattle.runs.proofs.OthersStay.{posted-bytes}
 use Rattle.promises.specs.Frame.{Whole}
 use Rattle.promises.specs.Posting.{Leaves, EveryPosting}
 use Rattle.promises.proofs.Frame.{whole-sound}

@@ -10,23 +10,23 @@ use native.Mathlib.Omega.{arith}
 use lib.ListN.{length, getD, set, List·getD-eq-default}
 use lib.Dec.{ltb}
 use borrow.Author.Tests.{ltb-true, ltb-false}
-use Rattle.catalogue.specs.Catalogue.{Catalogue}
-use Rattle.catalogue.specs.Fault.{faultOf}
-use Rattle.catalogue.proofs.Faultless.{fault-zero}
-use Rattle.seat.specs.declared.State.the-variants.{Closed, Ready}
-use Rattle.seat.specs.Bits.{hasBit}
-use Rattle.seat.specs.Look.{isLeft}
-use Rattle.seat.specs.Clinic.{Clinic, closedClinic}
-use Rattle.seat.specs.Step.{step, steps, posted}
-use Rattle.seat.specs.Count.{jobSteps}
-use Rattle.seat.proofs.Fits.{seat-fits}
-use Rattle.seat.proofs.ClinicFits.{ClinicFits}
-use Rattle.seat.proofs.StepsAdded.{steps-added, closed-stays}
-use Rattle.seat.proofs.JobSteps.{job-steps, job-choices}
-use Rattle.seat.proofs.ReadyOnce.{ready-stays}
-use Rattle.seat.proofs.ReadyJob.{ended, maskAt, job-ready-after, left-exactly}
-use Rattle.desk.specs.Room.{clinicAt}
-use Rattle.desk.specs.Call.{Call}
+use Rattle.builds.specs.Catalogue.{Catalogue}
+use Rattle.builds.specs.Fault.{faultOf}
+use Rattle.builds.proofs.Faultless.{fault-zero}
+use Rattle.search.specs.declared.State.the-variants.{Closed, Ready}
+use Rattle.search.specs.Bits.{hasBit}
+use Rattle.search.specs.Look.{isLeft}
+use Rattle.search.specs.Clinic.{Clinic, closedClinic}
+use Rattle.search.specs.Step.{step, steps, posted}
+use Rattle.search.specs.Count.{jobSteps}
+use Rattle.search.proofs.Fits.{seat-fits}
+use Rattle.search.proofs.ClinicFits.{ClinicFits}
+use Rattle.search.proofs.StepsAdded.{steps-added, closed-stays}
+use Rattle.search.proofs.JobSteps.{job-steps, job-choices}
+use Rattle.search.proofs.ReadyOnce.{ready-stays}
+use Rattle.search.proofs.ReadyJob.{ended, maskAt, job-ready-after, left-exactly}
+use Rattle.runs.specs.Room.{clinicAt}
+use Rattle.runs.specs.Call.{Call}
 use Rattle.promises.specs.Moment.{moment, Opened}
 use Rattle.promises.proofs.SoundMoments.{opened-faultless}
 use Rattle.promises.proofs.KeptChoices.{Kept, no-choice, by-build, kept-fit, build-set, kept-dropped}

@@ -5,13 +5,13 @@ use mathlib.Core.Path.{_≡_, refl, sym, _∙_}
 use mathlib.Core.Logic.{_↔_}
 use mathlib.Core.List.{List, [], _∷_}
 use native.Mathlib.Omega.{arith}
-use Rattle.catalogue.specs.Checks.{orElse, first}
-use Rattle.catalogue.proofs.Format.{accepted-iff}
-use Rattle.desk.specs.Room.{Room, freshDesk}
-use Rattle.desk.specs.Call.{seatOf, refused}
-use Rattle.desk.specs.Refusal.{table, openTable, refusal, openRefusal}
-use Rattle.desk.specs.Perform.{Outcome, perform, opening}
-use Rattle.desk.proofs.Performed.{perform-number, perform-refused, opening-number, opening-refused}
+use Rattle.builds.specs.Checks.{orElse, first}
+use Rattle.builds.proofs.Format.{accepted-iff}
+use Rattle.runs.specs.Room.{Room, freshDesk}
+use Rattle.runs.specs.Call.{seatOf, refused}
+use Rattle.runs.specs.Refusal.{table, openTable, refusal, openRefusal}
+use Rattle.runs.specs.Perform.{Outcome, perform, opening}
+use Rattle.runs.proofs.Performed.{perform-number, perform-refused, opening-number, opening-refused}
 use Rattle.promises.specs.Moment.{seatIn}
 use Rattle.promises.specs.Refusals.{Gives, none, this, next, Refusals}
 

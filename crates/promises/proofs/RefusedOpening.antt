@@ -7,18 +7,18 @@ use mathlib.Core.List.{List, [], _∷_}
 use native.Mathlib.Omega.{arith}
 use lib.ListN.{length, getD, drop, replicate}
 use lib.Dec.{eqb}
-use Rattle.catalogue.specs.Catalogue.{Catalogue}
-use Rattle.catalogue.specs.Checks.{when, first}
-use Rattle.catalogue.specs.Fault.{faultOf}
-use Rattle.seat.specs.declared.State.the-variants.{Closed, Ready}
-use Rattle.seat.specs.Clinic.{closedSeat}
-use Rattle.desk.specs.Room.{Room, freshDesk}
-use Rattle.desk.specs.Call.{Call, seatOf}
-use Rattle.desk.specs.Refusal.{table, refusal, openRefusal}
-use Rattle.desk.specs.Perform.{Outcome, perform, opening}
-use Rattle.desk.specs.Run.{afterCalls}
-use Rattle.seat.specs.Clinic.{noSeat}
-use Rattle.desk.proofs.Performed.{perform-number, perform-refused, opening-number, opening-refused}
+use Rattle.builds.specs.Catalogue.{Catalogue}
+use Rattle.builds.specs.Checks.{when, first}
+use Rattle.builds.specs.Fault.{faultOf}
+use Rattle.search.specs.declared.State.the-variants.{Closed, Ready}
+use Rattle.search.specs.Clinic.{closedSeat}
+use Rattle.runs.specs.Room.{Room, freshDesk}
+use Rattle.runs.specs.Call.{Call, seatOf}
+use Rattle.runs.specs.Refusal.{table, refusal, openRefusal}
+use Rattle.runs.specs.Perform.{Outcome, perform, opening}
+use Rattle.runs.specs.Run.{afterCalls}
+use Rattle.search.specs.Clinic.{noSeat}
+use Rattle.runs.proofs.Performed.{perform-number, perform-refused, opening-number, opening-refused}
 use Rattle.promises.specs.Moment.{moment, Opened, seatIn}
 
 -- rows below play no part where one of the first two gives a number

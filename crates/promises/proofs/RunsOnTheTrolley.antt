@@ -8,21 +8,21 @@ use mathlib.Core.List.{List, [], _∷_, _++_, List·Memᴰ·head, List·Memᴰ·
 use native.Mathlib.Omega.{arith}
 use lib.ListN.{length}
 use lib.Dec.{lit<}
-use Rattle.catalogue.specs.Every.{none, also}
-use Rattle.catalogue.specs.Catalogue.{sizeOf}
-use Rattle.catalogue.specs.Build.{IsBuild, BuildWith, padded}
-use Rattle.catalogue.specs.Builds.{buildsWith}
-use Rattle.catalogue.proofs.Builds.{builds-are, builds-with-are}
-use Rattle.seat.specs.declared.State.the-variants.{Closed, Ready}
-use Rattle.seat.specs.Bits.{hasBit}
-use Rattle.seat.specs.Clinic.{nothing16, noneLeft}
-use Rattle.seat.specs.Step.{posted}
-use Rattle.desk.specs.Room.{clinicAt}
-use Rattle.desk.specs.Call.{Call, Answer, enter, leave, choose, relax, options, example, turns, refused, plain}
-use Rattle.desk.specs.Perform.{perform, optionsAnswer}
-use Rattle.desk.specs.Run.{allTurnsAsked}
-use Rattle.worked.specs.Trolley.{trolley, allUnequal, lastChosen}
-use Rattle.worked.proofs.Computing.{computing}
+use Rattle.builds.specs.Every.{none, also}
+use Rattle.builds.specs.Catalogue.{sizeOf}
+use Rattle.builds.specs.Build.{IsBuild, BuildWith, padded}
+use Rattle.builds.specs.Builds.{buildsWith}
+use Rattle.builds.proofs.Builds.{builds-are, builds-with-are}
+use Rattle.search.specs.declared.State.the-variants.{Closed, Ready}
+use Rattle.search.specs.Bits.{hasBit}
+use Rattle.search.specs.Clinic.{nothing16, noneLeft}
+use Rattle.search.specs.Step.{posted}
+use Rattle.runs.specs.Room.{clinicAt}
+use Rattle.runs.specs.Call.{Call, Answer, enter, leave, choose, relax, options, example, turns, refused, plain}
+use Rattle.runs.specs.Perform.{perform, optionsAnswer}
+use Rattle.runs.specs.Run.{allTurnsAsked}
+use Rattle.search.specs.Trolley.{trolley, allUnequal, lastChosen}
+use Rattle.runs.proofs.Computing.{computing}
 use Rattle.promises.specs.Moment.{moment, Opened, seatIn}
 use Rattle.promises.specs.OptionsLeft.{OptionsLeft, GloballyConsistent}
 use Rattle.promises.specs.Waiting.{Waiting}

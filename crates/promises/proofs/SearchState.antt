@@ -9,24 +9,24 @@ use native.Mathlib.Omega.{arith}
 use lib.ListN.{length, set, length-replicate}
 use lib.Dec.{eqb}
 use borrow.Author.Tests.{eqb-true, eqb-false, ne-eqb}
-use Rattle.catalogue.specs.Catalogue.{Catalogue}
-use Rattle.catalogue.specs.Fault.{faultOf, member}
-use Rattle.seat.specs.Clinic.{Clinic, nothing16, closedClinic}
-use Rattle.seat.specs.Step.{steps, posted}
-use Rattle.seat.specs.Count.{jobSteps}
-use Rattle.seat.proofs.ReadyJob.{job-ready-after}
-use Rattle.desk.specs.Room.{Room, clinicAt, withClinic}
-use Rattle.desk.specs.Call.{Call, enter, leave, choose, relax, options, example, turns, refused}
-use Rattle.desk.specs.Turn.{stepsGiven}
-use Rattle.desk.specs.Refusal.{refusal}
-use Rattle.desk.specs.Perform.{Outcome, choicesOf, done, perform, opening}
-use Rattle.desk.specs.Run.{Since, closed, job, inForce, choicesBy, turnsAsked, moreSteps, postsFor, leavesFor, sinceCall, since, afterCalls}
-use Rattle.desk.proofs.Sound.{Sound}
-use Rattle.desk.proofs.SoundRuns.{call-sound}
-use Rattle.desk.proofs.WithClinic.{with-same, with-other, fresh-clinic}
-use Rattle.desk.proofs.OthersStay.{posted-bytes}
-use Rattle.desk.proofs.Performed.{perform-accepted, perform-refused, opening-accepted}
-use Rattle.desk.proofs.AcceptedCalls.{accepted}
+use Rattle.builds.specs.Catalogue.{Catalogue}
+use Rattle.builds.specs.Fault.{faultOf, member}
+use Rattle.search.specs.Clinic.{Clinic, nothing16, closedClinic}
+use Rattle.search.specs.Step.{steps, posted}
+use Rattle.search.specs.Count.{jobSteps}
+use Rattle.search.proofs.ReadyJob.{job-ready-after}
+use Rattle.runs.specs.Room.{Room, clinicAt, withClinic}
+use Rattle.runs.specs.Call.{Call, enter, leave, choose, relax, options, example, turns, refused}
+use Rattle.runs.specs.Turn.{stepsGiven}
+use Rattle.runs.specs.Refusal.{refusal}
+use Rattle.runs.specs.Perform.{Outcome, choicesOf, done, perform, opening}
+use Rattle.runs.specs.Run.{Since, closed, job, inForce, choicesBy, turnsAsked, moreSteps, postsFor, leavesFor, sinceCall, since, afterCalls}
+use Rattle.runs.proofs.Sound.{Sound}
+use Rattle.runs.proofs.SoundRuns.{call-sound}
+use Rattle.runs.proofs.WithClinic.{with-same, with-other, fresh-clinic}
+use Rattle.runs.proofs.OthersStay.{posted-bytes}
+use Rattle.runs.proofs.Performed.{perform-accepted, perform-refused, opening-accepted}
+use Rattle.runs.proofs.AcceptedCalls.{accepted}
 use Rattle.promises.specs.Moment.{moment}
 use Rattle.promises.specs.SearchState.{SearchState, OwnChoices, Stands, blank}
 use Rattle.promises.proofs.SoundMoments.{not-refused, opened-faultless, sound-moment}

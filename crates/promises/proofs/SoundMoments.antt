@@ -3,15 +3,15 @@
 use Prim.Native.Nat.{ℕ}
 use mathlib.Core.Path.{_≡_, sym, _∙_}
 use mathlib.Core.List.{List}
-use Rattle.catalogue.specs.Catalogue.{Catalogue}
-use Rattle.catalogue.specs.Fault.{faultOf}
-use Rattle.desk.specs.Call.{Call}
-use Rattle.desk.specs.Refusal.{openRefusal}
-use Rattle.desk.specs.Perform.{opening}
-use Rattle.desk.proofs.Sound.{Sound}
-use Rattle.desk.proofs.Performed.{opening-number}
-use Rattle.desk.proofs.AcceptedCalls.{opened}
-use Rattle.desk.proofs.SoundRuns.{calls-sound, opening-sound}
+use Rattle.builds.specs.Catalogue.{Catalogue}
+use Rattle.builds.specs.Fault.{faultOf}
+use Rattle.runs.specs.Call.{Call}
+use Rattle.runs.specs.Refusal.{openRefusal}
+use Rattle.runs.specs.Perform.{opening}
+use Rattle.runs.proofs.Sound.{Sound}
+use Rattle.runs.proofs.Performed.{opening-number}
+use Rattle.runs.proofs.AcceptedCalls.{opened}
+use Rattle.runs.proofs.SoundRuns.{calls-sound, opening-sound}
 use Rattle.promises.specs.Moment.{moment, Opened}
 
 module _ (catalogue : Catalogue) (board : List ℕ) (accepted : Opened catalogue board) where

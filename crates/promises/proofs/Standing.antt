@@ -10,20 +10,20 @@ use native.Mathlib.Numerals.{add-one}
 use native.Mathlib.Omega.{arith}
 use lib.Dec.{ltb, eqb}
 use borrow.Author.Tests.{ltb-true, ltb-false, eqb-true, eqb-false}
-use Rattle.catalogue.specs.Catalogue.{Catalogue}
-use Rattle.catalogue.specs.Fault.{faultOf}
-use Rattle.seat.specs.declared.State.the-variants.{Ready, Closed}
-use Rattle.seat.specs.Clinic.{Clinic, nothing16}
-use Rattle.seat.specs.Step.{step, steps, posted, ReadyAfter}
-use Rattle.seat.proofs.StepsAdded.{steps-choices}
-use Rattle.seat.proofs.ReadyOnce.{not-both, ready-once}
-use Rattle.desk.specs.Room.{Room, clinicAt}
-use Rattle.desk.specs.Turn.{isAtWork, served, is, turn, afterTurns, stepsGiven}
-use Rattle.desk.specs.Run.{Since, closed, job, inForce, moreSteps}
-use Rattle.desk.proofs.Sound.{Sound, turn-sound}
-use Rattle.desk.proofs.Served.{served-found, not-idle}
-use Rattle.desk.proofs.OthersStay.{turn-steps, turn-stays}
-use Rattle.desk.proofs.TurnsMade.{idle-turn}
+use Rattle.builds.specs.Catalogue.{Catalogue}
+use Rattle.builds.specs.Fault.{faultOf}
+use Rattle.search.specs.declared.State.the-variants.{Ready, Closed}
+use Rattle.search.specs.Clinic.{Clinic, nothing16}
+use Rattle.search.specs.Step.{step, steps, posted, ReadyAfter}
+use Rattle.search.proofs.StepsAdded.{steps-choices}
+use Rattle.search.proofs.ReadyOnce.{not-both, ready-once}
+use Rattle.runs.specs.Room.{Room, clinicAt}
+use Rattle.runs.specs.Turn.{isAtWork, served, is, turn, afterTurns, stepsGiven}
+use Rattle.runs.specs.Run.{Since, closed, job, inForce, moreSteps}
+use Rattle.runs.proofs.Sound.{Sound, turn-sound}
+use Rattle.runs.proofs.Served.{served-found, not-idle}
+use Rattle.runs.proofs.OthersStay.{turn-steps, turn-stays}
+use Rattle.runs.proofs.TurnsMade.{idle-turn}
 use Rattle.promises.specs.SearchState.{Stands, blank, searching}
 
 one-step-more : (catalogue : Catalogue) (n : ℕ) (clinic : Clinic) → steps catalogue (n + 1) clinic ≡ step catalogue (steps catalogue n clinic)

@@ -2,19 +2,19 @@
 -- and with arrays of their lengths it is sound.
 use Prim.Native.Nat.{ℕ, _<_}
 use mathlib.Core.Path.{_≡_, refl, sym, ap, _∙_}
-use Rattle.catalogue.specs.Catalogue.{Catalogue}
-use Rattle.desk.specs.Room.{Room}
-use Rattle.desk.specs.Call.{turns}
-use Rattle.desk.specs.Turn.{turn, afterTurns}
-use Rattle.desk.specs.Refusal.{refusal}
-use Rattle.desk.specs.Perform.{done, perform}
-use Rattle.desk.proofs.Sound.{Sound, turns-sound}
-use Rattle.desk.proofs.Performed.{perform-number, perform-accepted, after-call}
-use Rattle.desk.proofs.AcceptedCalls.{accepted}
-use Rattle.desk.proofs.TurnsAdded.{turns-performed}
-use Rattle.desk.proofs.TurnsMade.{idle-turn}
-use Rattle.desk.proofs.TurnsAnswered as laws
-use Rattle.desk.proofs.RingAhead as ring
+use Rattle.builds.specs.Catalogue.{Catalogue}
+use Rattle.runs.specs.Room.{Room}
+use Rattle.runs.specs.Call.{turns}
+use Rattle.runs.specs.Turn.{turn, afterTurns}
+use Rattle.runs.specs.Refusal.{refusal}
+use Rattle.runs.specs.Perform.{done, perform}
+use Rattle.runs.proofs.Sound.{Sound, turns-sound}
+use Rattle.runs.proofs.Performed.{perform-number, perform-accepted, after-call}
+use Rattle.runs.proofs.AcceptedCalls.{accepted}
+use Rattle.runs.proofs.TurnsAdded.{turns-performed}
+use Rattle.runs.proofs.TurnsMade.{idle-turn}
+use Rattle.runs.proofs.TurnsAnswered as laws
+use Rattle.runs.proofs.RingAhead as ring
 use Rattle.promises.specs.Frame.{Whole}
 use Rattle.promises.specs.TurnsAnswered.{TurnsAnswered, EveryTurns, OneTurn}
 use Rattle.promises.proofs.Frame.{whole-sound}

@@ -4,16 +4,16 @@
 use Prim.Native.Nat.{ℕ, _<_}
 use mathlib.Core.Path.{_≡_, sym, ap, _∙_}
 use mathlib.Core.List.{List}
-use Rattle.catalogue.specs.Catalogue.{Catalogue}
-use Rattle.seat.specs.Clinic.{closedClinic}
-use Rattle.seat.proofs.StepsAdded.{closed-stays}
-use Rattle.desk.specs.Room.{Room, clinicAt}
-use Rattle.desk.specs.Call.{Call}
-use Rattle.desk.specs.Perform.{Outcome, opening}
-use Rattle.desk.proofs.WithClinic.{fresh-clinic}
-use Rattle.desk.proofs.Performed.{opening-accepted}
-use Rattle.desk.proofs.SoundRuns.{opening-sound}
-use Rattle.desk.proofs.Replayed.{replayedAnswers, replayedClinic, replayed}
+use Rattle.builds.specs.Catalogue.{Catalogue}
+use Rattle.search.specs.Clinic.{closedClinic}
+use Rattle.search.proofs.StepsAdded.{closed-stays}
+use Rattle.runs.specs.Room.{Room, clinicAt}
+use Rattle.runs.specs.Call.{Call}
+use Rattle.runs.specs.Perform.{Outcome, opening}
+use Rattle.runs.proofs.WithClinic.{fresh-clinic}
+use Rattle.runs.proofs.Performed.{opening-accepted}
+use Rattle.runs.proofs.SoundRuns.{opening-sound}
+use Rattle.runs.proofs.Replayed.{replayedAnswers, replayedClinic, replayed}
 use Rattle.promises.specs.Moment.{moment, Opened}
 use Rattle.promises.specs.TwoRuns.{TwoRuns, callsOf, answersOf}
 use Rattle.promises.proofs.SoundMoments.{not-refused, opened-faultless}

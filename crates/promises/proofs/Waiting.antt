@@ -7,19 +7,19 @@ use mathlib.Core.List.{List, [], _∷_, _++_}
 use native.Mathlib.Omega.{arith}
 use lib.Dec.{ltb}
 use borrow.Author.Tests.{ltb-true, ltb-false}
-use Rattle.catalogue.specs.Catalogue.{Catalogue}
-use Rattle.catalogue.specs.Fault.{faultOf}
-use Rattle.seat.specs.declared.State.the-variants.{Ready}
-use Rattle.seat.specs.Clinic.{Clinic}
-use Rattle.seat.specs.Step.{steps, posted, ReadyAfter}
-use Rattle.desk.specs.Room.{Room, clinicAt}
-use Rattle.desk.specs.Call.{Call}
-use Rattle.desk.specs.Perform.{perform, opening}
-use Rattle.desk.specs.Run.{job, closed, inForce, choicesBy, since, afterCalls, allTurnsAsked, postsFor}
-use Rattle.desk.proofs.Sound.{Sound}
-use Rattle.desk.proofs.SoundRuns.{call-sound}
-use Rattle.desk.proofs.CallKinds.{calls-joined}
-use Rattle.desk.proofs.RingAhead.{ahead-below}
+use Rattle.builds.specs.Catalogue.{Catalogue}
+use Rattle.builds.specs.Fault.{faultOf}
+use Rattle.search.specs.declared.State.the-variants.{Ready}
+use Rattle.search.specs.Clinic.{Clinic}
+use Rattle.search.specs.Step.{steps, posted, ReadyAfter}
+use Rattle.runs.specs.Room.{Room, clinicAt}
+use Rattle.runs.specs.Call.{Call}
+use Rattle.runs.specs.Perform.{perform, opening}
+use Rattle.runs.specs.Run.{job, closed, inForce, choicesBy, since, afterCalls, allTurnsAsked, postsFor}
+use Rattle.runs.proofs.Sound.{Sound}
+use Rattle.runs.proofs.SoundRuns.{call-sound}
+use Rattle.runs.proofs.CallKinds.{calls-joined}
+use Rattle.runs.proofs.RingAhead.{ahead-below}
 use Rattle.promises.specs.Moment.{moment, Opened, seatIn}
 use Rattle.promises.specs.SearchState.{Stands}
 use Rattle.promises.specs.Waiting.{Waits, Waiting}

@@ -7,14 +7,14 @@ use mathlib.Core.Bool.{true, false}
 use mathlib.Core.Option.{some}
 use mathlib.Core.List.{[]}
 use lib.ListN.{length}
-use Rattle.catalogue.specs.Catalogue.{Catalogue}
-use Rattle.catalogue.specs.Fault.{faultOf}
-use Rattle.seat.specs.Step.{step}
-use Rattle.desk.specs.Room.{Room, clinicAt}
-use Rattle.desk.specs.Fit.{deskFits}
-use Rattle.desk.specs.Call.{Call, turns, isOf, numbersOf}
-use Rattle.desk.specs.Turn.{served, seatAfter, turn}
-use Rattle.desk.specs.Perform.{perform}
+use Rattle.builds.specs.Catalogue.{Catalogue}
+use Rattle.builds.specs.Fault.{faultOf}
+use Rattle.search.specs.Step.{step}
+use Rattle.runs.specs.Room.{Room, clinicAt}
+use Rattle.runs.specs.Fit.{deskFits}
+use Rattle.runs.specs.Call.{Call, turns, isOf, numbersOf}
+use Rattle.runs.specs.Turn.{served, seatAfter, turn}
+use Rattle.runs.specs.Perform.{perform}
 use Rattle.promises.specs.Moment.{seatIn}
 
 -- a desk has eight seats, each with sixteen choices, masks and trial entries, and the board has its length

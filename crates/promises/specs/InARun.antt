@@ -5,14 +5,14 @@ use mathlib.Core.Logic.{_↔_}
 use mathlib.Core.Bool.{true}
 use mathlib.Core.List.{List}
 use lib.ListN.{length, getD}
-use Rattle.catalogue.specs.Catalogue.{Catalogue}
-use Rattle.catalogue.specs.Build.{IsBuild}
-use Rattle.seat.specs.declared.State.the-variants.{Ready}
-use Rattle.seat.specs.Bits.{hasBit}
-use Rattle.seat.specs.Clinic.{nothing16, noneLeft, emptyShare}
-use Rattle.desk.specs.Room.{Room, shareAt}
-use Rattle.desk.specs.Call.{Call, options}
-use Rattle.desk.specs.Perform.{perform}
+use Rattle.builds.specs.Catalogue.{Catalogue}
+use Rattle.builds.specs.Build.{IsBuild}
+use Rattle.search.specs.declared.State.the-variants.{Ready}
+use Rattle.search.specs.Bits.{hasBit}
+use Rattle.search.specs.Clinic.{nothing16, noneLeft, emptyShare}
+use Rattle.runs.specs.Room.{Room, shareAt}
+use Rattle.runs.specs.Call.{Call, options}
+use Rattle.runs.specs.Perform.{perform}
 use Rattle.promises.specs.Moment.{moment, Opened, seatIn}
 
 pub record InARun (catalogue : Catalogue) (room : Room) (c : ℕ) : Type 0 where

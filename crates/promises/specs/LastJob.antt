@@ -4,13 +4,13 @@
 use Prim.Native.Nat.{ℕ, _<_}
 use mathlib.Core.Path.{_≡_}
 use mathlib.Core.List.{List}
-use Rattle.catalogue.specs.Catalogue.{Catalogue}
-use Rattle.seat.specs.declared.State.the-variants.{Closed, Ready}
-use Rattle.seat.specs.Clinic.{Clinic}
-use Rattle.seat.specs.Step.{steps, posted, ReadyAfter}
-use Rattle.desk.specs.Room.{clinicAt}
-use Rattle.desk.specs.Call.{Call}
-use Rattle.desk.specs.Perform.{perform, opening}
+use Rattle.builds.specs.Catalogue.{Catalogue}
+use Rattle.search.specs.declared.State.the-variants.{Closed, Ready}
+use Rattle.search.specs.Clinic.{Clinic}
+use Rattle.search.specs.Step.{steps, posted, ReadyAfter}
+use Rattle.runs.specs.Room.{clinicAt}
+use Rattle.runs.specs.Call.{Call}
+use Rattle.runs.specs.Perform.{perform, opening}
 use Rattle.promises.specs.Moment.{moment, Opened, seatIn}
 
 pub record NumbersInARun (catalogue : Catalogue) (board : List ℕ) (calls : List Call) (call : Call) : Type 0 where

@@ -4,12 +4,12 @@
 use Prim.Native.Nat.{ℕ}
 use mathlib.Core.Path.{_≡_}
 use mathlib.Core.List.{List}
-use Rattle.catalogue.specs.Catalogue.{Catalogue}
-use Rattle.seat.specs.declared.Seat.{Seat}
-use Rattle.desk.specs.Room.{Room, seatAt}
-use Rattle.desk.specs.Call.{Call}
-use Rattle.desk.specs.Perform.{opening}
-use Rattle.desk.specs.Run.{afterCalls}
+use Rattle.builds.specs.Catalogue.{Catalogue}
+use Rattle.search.specs.declared.Seat.{Seat}
+use Rattle.runs.specs.Room.{Room, seatAt}
+use Rattle.runs.specs.Call.{Call}
+use Rattle.runs.specs.Perform.{opening}
+use Rattle.runs.specs.Run.{afterCalls}
 
 unfoldable pub moment : Catalogue → List ℕ → List Call → Room
 moment catalogue board calls = afterCalls catalogue calls (opening catalogue board .room)

@@ -7,15 +7,15 @@ use mathlib.Core.Logic.{_↔_}
 use mathlib.Core.Bool.{true}
 use mathlib.Core.List.{List}
 use lib.ListN.{length, replicate}
-use Rattle.catalogue.specs.Catalogue.{Catalogue, sizeOf}
-use Rattle.catalogue.specs.Build.{BuildWith, FirstWith, padded}
-use Rattle.catalogue.specs.Gic.{GicClosure}
-use Rattle.seat.specs.declared.State.the-variants.{Ready}
-use Rattle.seat.specs.Bits.{hasBit}
-use Rattle.seat.specs.Clinic.{exampleIn}
-use Rattle.desk.specs.Room.{Room, shareAt}
-use Rattle.desk.specs.Call.{Call, options, example, refused}
-use Rattle.desk.specs.Perform.{perform, optionsAnswer, exampleAnswer}
+use Rattle.builds.specs.Catalogue.{Catalogue, sizeOf}
+use Rattle.builds.specs.Build.{BuildWith, FirstWith, padded}
+use Rattle.builds.specs.Gic.{GicClosure}
+use Rattle.search.specs.declared.State.the-variants.{Ready}
+use Rattle.search.specs.Bits.{hasBit}
+use Rattle.search.specs.Clinic.{exampleIn}
+use Rattle.runs.specs.Room.{Room, shareAt}
+use Rattle.runs.specs.Call.{Call, options, example, refused}
+use Rattle.runs.specs.Perform.{perform, optionsAnswer, exampleAnswer}
 use Rattle.promises.specs.Moment.{moment, seatIn}
 
 -- what seat c is shown of feature i, through the answers of the options and example calls

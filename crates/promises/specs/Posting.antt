@@ -4,12 +4,12 @@
 use Prim.Native.Nat.{ℕ}
 use mathlib.Core.Path.{_≡_}
 use lib.ListN.{set}
-use Rattle.catalogue.specs.Catalogue.{Catalogue}
-use Rattle.seat.specs.Clinic.{Clinic, nothing16, closedClinic}
-use Rattle.seat.specs.Step.{posted}
-use Rattle.desk.specs.Room.{Room, clinicAt}
-use Rattle.desk.specs.Call.{Call, enter, leave, choose, relax}
-use Rattle.desk.specs.Perform.{perform}
+use Rattle.builds.specs.Catalogue.{Catalogue}
+use Rattle.search.specs.Clinic.{Clinic, nothing16, closedClinic}
+use Rattle.search.specs.Step.{posted}
+use Rattle.runs.specs.Room.{Room, clinicAt}
+use Rattle.runs.specs.Call.{Call, enter, leave, choose, relax}
+use Rattle.runs.specs.Perform.{perform}
 use Rattle.promises.specs.Moment.{seatIn}
 use Rattle.promises.specs.Frame.{Whole}
 

@@ -7,13 +7,13 @@ use Prim.Native.Nat.{ℕ, zero}
 use mathlib.Core.Path.{_≡_}
 use mathlib.Core.Logic.{_↔_}
 use mathlib.Core.List.{List, [], _∷_}
-use Rattle.catalogue.specs.Catalogue.{Catalogue}
-use Rattle.catalogue.specs.Format.{Accepted}
-use Rattle.catalogue.specs.Fault.{faultOf}
-use Rattle.desk.specs.Room.{Room, freshDesk}
-use Rattle.desk.specs.Call.{Call, refused, seatOf}
-use Rattle.desk.specs.Refusal.{table, openTable}
-use Rattle.desk.specs.Perform.{perform, opening}
+use Rattle.builds.specs.Catalogue.{Catalogue}
+use Rattle.builds.specs.Format.{Accepted}
+use Rattle.builds.specs.Fault.{faultOf}
+use Rattle.runs.specs.Room.{Room, freshDesk}
+use Rattle.runs.specs.Call.{Call, refused, seatOf}
+use Rattle.runs.specs.Refusal.{table, openTable}
+use Rattle.runs.specs.Perform.{perform, opening}
 use Rattle.promises.specs.Moment.{seatIn}
 
 -- Of a table's rows, each a number or 0 where it has nothing to say: r is given when its row gives it and every earlier

@@ -6,14 +6,14 @@ use Prim.Native.Nat.{ℕ, _≤_, _<_}
 use mathlib.Core.Path.{_≡_}
 use mathlib.Core.Logic.{_↔_}
 use mathlib.Core.List.{List}
-use Rattle.catalogue.specs.Catalogue.{Catalogue}
-use Rattle.seat.specs.declared.State.the-variants.{Ready}
-use Rattle.seat.specs.Clinic.{Clinic, closedClinic}
-use Rattle.seat.specs.Step.{steps, posted, ReadyAfter}
-use Rattle.desk.specs.Room.{clinicAt}
-use Rattle.desk.specs.Call.{Call}
-use Rattle.desk.specs.Perform.{opening}
-use Rattle.desk.specs.Run.{Since, closed, job, inForce, since}
+use Rattle.builds.specs.Catalogue.{Catalogue}
+use Rattle.search.specs.declared.State.the-variants.{Ready}
+use Rattle.search.specs.Clinic.{Clinic, closedClinic}
+use Rattle.search.specs.Step.{steps, posted, ReadyAfter}
+use Rattle.runs.specs.Room.{clinicAt}
+use Rattle.runs.specs.Call.{Call}
+use Rattle.runs.specs.Perform.{opening}
+use Rattle.runs.specs.Run.{Since, closed, job, inForce, since}
 use Rattle.promises.specs.Moment.{moment, Opened, seatIn}
 
 -- a clinic's record and share, by what its seat has come through

@@ -7,13 +7,13 @@ use mathlib.Core.Logic.{_↔_, _⊎_}
 use mathlib.Core.Bool.{true, false}
 use mathlib.Core.Option.{none, some}
 use mathlib.Core.List.{map}
-use Rattle.catalogue.specs.Catalogue.{Catalogue}
-use Rattle.catalogue.specs.Builds.{countFrom}
-use Rattle.seat.specs.Count.{sum}
-use Rattle.desk.specs.Room.{Room}
-use Rattle.desk.specs.Call.{turns}
-use Rattle.desk.specs.Turn.{isAtWork, served, turn, stepsGiven}
-use Rattle.desk.specs.Perform.{perform}
+use Rattle.builds.specs.Catalogue.{Catalogue}
+use Rattle.builds.specs.Builds.{countFrom}
+use Rattle.search.specs.Count.{sum}
+use Rattle.runs.specs.Room.{Room}
+use Rattle.runs.specs.Call.{turns}
+use Rattle.runs.specs.Turn.{isAtWork, served, turn, stepsGiven}
+use Rattle.runs.specs.Perform.{perform}
 use Rattle.promises.specs.Moment.{seatIn}
 use Rattle.promises.specs.Frame.{Whole}
 

@@ -4,11 +4,11 @@
 use Prim.Native.Nat.{ℕ, _<_}
 use mathlib.Core.Path.{_≡_}
 use mathlib.Core.List.{List, map}
-use Rattle.catalogue.specs.Catalogue.{Catalogue}
-use Rattle.desk.specs.Room.{clinicAt}
-use Rattle.desk.specs.Call.{Call, Answer}
-use Rattle.desk.specs.Perform.{opening}
-use Rattle.desk.specs.Run.{Own, side}
+use Rattle.builds.specs.Catalogue.{Catalogue}
+use Rattle.runs.specs.Room.{clinicAt}
+use Rattle.runs.specs.Call.{Call, Answer}
+use Rattle.runs.specs.Perform.{opening}
+use Rattle.runs.specs.Run.{Own, side}
 use Rattle.promises.specs.Moment.{moment, Opened}
 
 -- clinic c's calls, each with the steps that it was given after it, and the answers to them

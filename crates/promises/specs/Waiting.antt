@@ -5,14 +5,14 @@ use Prim.Native.Nat.{ℕ, _*_, _≤_, _<_}
 use mathlib.Core.Path.{_≡_}
 use mathlib.Core.Bool.{true, false}
 use mathlib.Core.List.{List, [], _∷_, _++_}
-use Rattle.catalogue.specs.Every.{Every}
-use Rattle.catalogue.specs.Catalogue.{Catalogue}
-use Rattle.seat.specs.declared.State.the-variants.{Ready}
-use Rattle.seat.specs.Step.{ReadyAfter}
-use Rattle.desk.specs.Room.{clinicAt}
-use Rattle.desk.specs.Call.{Call, isOf}
-use Rattle.desk.specs.Perform.{perform}
-use Rattle.desk.specs.Run.{allTurnsAsked, postsFor}
+use Rattle.builds.specs.Every.{Every}
+use Rattle.builds.specs.Catalogue.{Catalogue}
+use Rattle.search.specs.declared.State.the-variants.{Ready}
+use Rattle.search.specs.Step.{ReadyAfter}
+use Rattle.runs.specs.Room.{clinicAt}
+use Rattle.runs.specs.Call.{Call, isOf}
+use Rattle.runs.specs.Perform.{perform}
+use Rattle.runs.specs.Run.{allTurnsAsked, postsFor}
 use Rattle.promises.specs.Moment.{moment, Opened, seatIn}
 
 -- a job posted for seat c at some moment of a run, and what then holds

@@ -1,10 +1,13 @@
 // The candidates at a feature for one pair: the pair's own option, else the choice in force, else all options, rising.
+use search::Place;
+use search::State;
 ghost use mathlib.Core.Path.{_≡_};
 ghost use Prim.Native.Nat.{_<_, _≤_};
 ghost use lib.ListN.{length, getD};
-ghost use Rattle.seat.specs.Candidates.{firstCandidate, firstAbove, nextCandidate};
+ghost use Rattle.search.specs.Candidates.{firstCandidate, firstAbove, nextCandidate};
+ghost use Rattle.search.specs.Step.{started};
 ghost use mathlib.Core.List.{_∷_, []};
-ghost use Rattle.seat.specs.Ways.{nextOf};
+ghost use Rattle.seat.specs.inner.Next.{nextOf};
 
 // The next greater candidate, if there is one.
 pub enum Next {
@@ -55,4 +58,18 @@ fn above(v: u8, only: u8) -> Next
     } else {
         Next::Nothing
     }
+}
+
+// A pair starts at depth 0 with the first candidate there.
+pub fn started(sizes: &[u8], choices: &[u8], feature: u8, option: u8) -> State
+    requires { ⌜ (length (now choices) ≡ 16) × (1 ≤ getD (now sizes) 0 0) ⌝ }
+    ensures { λ r. ⌜ r ≡ started (now (sizes .entry)) (now (choices .entry)) feature option ⌝ }
+{
+    let first = first_candidate(sizes, choices, feature as usize, option, 0);
+    State::AtWork(Place {
+        feature,
+        option,
+        depth: 0,
+        next: first,
+    })
 }

@@ -1,13 +1,13 @@
 // Posting a job, and closing a seat. All that a posting keeps are the choices, as they then are.
-use crate::Seat;
-use crate::State;
-use crate::search::started;
+use crate::candidates::started;
 use crate::share::empty;
+use search::Seat;
+use search::State;
 ghost use mathlib.Core.Path.{_≡_};
 ghost use Prim.Native.Nat.{_<_, _≤_};
 ghost use lib.ListN.{length, getD, set};
-ghost use Rattle.seat.specs.Clinic.{clinicOf, closedClinic, closedSeat};
-ghost use Rattle.seat.specs.Step.{posted};
+ghost use Rattle.search.specs.Clinic.{clinicOf, closedClinic, closedSeat};
+ghost use Rattle.search.specs.Step.{posted};
 
 pub fn enter(seat: Seat, share: &mut [u8], sizes: &[u8]) -> Seat
     requires { ⌜ (length (now share) ≡ 4096) × (1 ≤ getD (now sizes) 0 0) ⌝ }

@@ -1,9 +1,9 @@
 // What others look up in a seat's record. Features and options are below 16.
-use crate::Seat;
-use crate::State;
+use search::Seat;
+use search::State;
 ghost use mathlib.Core.Path.{_≡_};
 ghost use Prim.Native.Nat.{_<_};
-ghost use Rattle.seat.specs.Look.{isClosed, isAtWork, hasChoice, maskOf, isLeft};
+ghost use Rattle.search.specs.Look.{isClosed, isAtWork, hasChoice, maskOf, isLeft};
 
 pub fn is_closed(seat: Seat) -> bool
     ensures { λ r. ⌜ r ≡ isClosed (seat .state) ⌝ }

@@ -5,15 +5,15 @@ use mathlib.Core.Logic.{inl}
 use mathlib.Core.List.{[], _∷_}
 use mathlib.Core.Option.{some}
 use native.Mathlib.Omega.{arith}
-use Rattle.catalogue.specs.Rule.{optionsAt, matches, someRow, satisfies, satisfiesAll}
-use Rattle.catalogue.specs.Catalogue.{rowsRead, ruleRead, rulesRead, rulesOf}
-use Rattle.catalogue.specs.Fault.{sizesFault, member, featuresFault, rowFits, rowsFault, ruleFault, rulesFault, faultOf}
-use Rattle.catalogue.specs.Builds.{countFrom, inFront, instantiations, keepsChoices, keep, builds, buildsWith}
-use Rattle.catalogue.proofs.Padded.{nothing-there}
-use Rattle.catalogue.proofs.Dictionary.{FirstIs}
-use Rattle.catalogue.proofs.Builds.{first-listed}
-use Rattle.seat.proofs.Fitting.{Fitting}
-use Rattle.worked.specs.Trolley.{trolley, noChoices}
+use Rattle.builds.specs.Rule.{optionsAt, matches, someRow, satisfies, satisfiesAll}
+use Rattle.builds.specs.Catalogue.{rowsRead, ruleRead, rulesRead, rulesOf}
+use Rattle.builds.specs.Fault.{sizesFault, member, featuresFault, rowFits, rowsFault, ruleFault, rulesFault, faultOf}
+use Rattle.builds.specs.Builds.{countFrom, inFront, instantiations, keepsChoices, keep, builds, buildsWith}
+use Rattle.builds.proofs.Padded.{nothing-there}
+use Rattle.builds.proofs.Dictionary.{FirstIs}
+use Rattle.builds.proofs.Builds.{first-listed}
+use Rattle.search.proofs.Fitting.{Fitting}
+use Rattle.search.specs.Trolley.{trolley, noChoices}
 
 pub trolley-fits : Fitting trolley noChoices 1 2
 unfolding trolley sizesFault member featuresFault rowFits rowsFault ruleFault rulesFault faultOf

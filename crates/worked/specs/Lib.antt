@@ -1,3 +1,2 @@
-pub mod Trolley
 pub mod Worked
 pub mod WorkedRuns

@@ -5,15 +5,15 @@ use mathlib.Core.Bool.{cond}
 use mathlib.Core.List.{List, [], _∷_, map}
 use lib.ListN.{getD, take, replicate}
 use lib.Dec.{eqb}
-use Rattle.catalogue.specs.Rule.{Rule}
-use Rattle.catalogue.specs.Catalogue.{Catalogue, rulesOf}
-use Rattle.catalogue.specs.Builds.{builds}
-use Rattle.seat.specs.declared.State.{State}
-use Rattle.seat.specs.declared.State.the-variants.{Closed, Ready, AtWork}
-use Rattle.seat.specs.Clinic.{Clinic, exampleIn}
-use Rattle.seat.specs.Step.{steps, posted}
-use Rattle.seat.specs.Count.{pairCounts, jobSteps}
-use Rattle.worked.specs.Trolley.{trolley, allUnequal, single, noChoices, lastChosen}
+use Rattle.builds.specs.Rule.{Rule}
+use Rattle.builds.specs.Catalogue.{Catalogue, rulesOf}
+use Rattle.builds.specs.Builds.{builds}
+use Rattle.search.specs.declared.State.{State}
+use Rattle.search.specs.declared.State.the-variants.{Closed, Ready, AtWork}
+use Rattle.search.specs.Clinic.{Clinic, exampleIn}
+use Rattle.search.specs.Step.{steps, posted}
+use Rattle.search.specs.Count.{pairCounts, jobSteps}
+use Rattle.search.specs.Trolley.{trolley, allUnequal, single, noChoices, lastChosen}
 
 pub record Case : Type 0 where
   pub number : ℕ

@@ -3,14 +3,14 @@
 use Prim.Native.Nat.{ℕ, zero, suc}
 use mathlib.Core.List.{List, [], _∷_, _++_, map}
 use lib.ListN.{take, replicate}
-use Rattle.seat.specs.declared.Seat.{Seat}
-use Rattle.desk.specs.Room.{Room, seatAt, emptyBoard}
-use Rattle.desk.specs.Call.{Call, enter, choose, turns}
-use Rattle.desk.specs.Turn.{turn}
-use Rattle.desk.specs.Refusal.{refusal}
-use Rattle.desk.specs.Perform.{opening}
-use Rattle.desk.specs.Run.{afterCalls}
-use Rattle.worked.specs.Trolley.{trolley}
+use Rattle.search.specs.declared.Seat.{Seat}
+use Rattle.runs.specs.Room.{Room, seatAt, emptyBoard}
+use Rattle.runs.specs.Call.{Call, enter, choose, turns}
+use Rattle.runs.specs.Turn.{turn}
+use Rattle.runs.specs.Refusal.{refusal}
+use Rattle.runs.specs.Perform.{opening}
+use Rattle.runs.specs.Run.{afterCalls}
+use Rattle.search.specs.Trolley.{trolley}
 use Rattle.worked.specs.Worked.{stateNumber}
 
 -- desk and board after some calls on a trolley's desk, opened on a board of zeros

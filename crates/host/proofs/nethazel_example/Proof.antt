@@ -3,7 +3,7 @@ use Prim.Native.Nat.{_<_}
 use mathlib.Core.Path.{_≡_, sym, _∙_}
 use native.Mathlib.Omega.{arith}
 use borrow.Author.Needs.{needs}
-use Rattle.desk.specs.Call.{example}
+use Rattle.runs.specs.Call.{example}
 use Rattle.host.specs.Door.{inside}
 use Rattle.host.proofs.StandingExample.{stands-nowhere, example-bounds, bytes-there, no-bytes}
 use Rattle.host.proofs.nethazel_example.Statement.{statement}

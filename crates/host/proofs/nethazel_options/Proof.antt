@@ -1,7 +1,7 @@
 -- The desk's answer, on the host's desk converted.
 use mathlib.Core.Path.{ap}
 use borrow.Author.Needs.{needs}
-use Rattle.desk.specs.Perform.{Outcome}
+use Rattle.runs.specs.Perform.{Outcome}
 use Rattle.host.proofs.ThroughDoor.{called-inside}
 use Rattle.host.proofs.nethazel_options.Statement.{statement}
 use Rattle.host.proofs.nethazel_options.Tie as tie

@@ -11,8 +11,8 @@ use borrow.Author.Needs.{needs}
 use borrow.Author.Tests.{not-true, not-false}
 use lib.ListN.{length, drop, length-take, length-drop}
 use lib.Seq.{drop-drop}
-use Rattle.catalogue.specs.Fault.{rowFits, rowsFault}
-use Rattle.catalogue.proofs.Alone.{row-alone}
+use Rattle.builds.specs.Fault.{rowFits, rowsFault}
+use Rattle.builds.proofs.Alone.{row-alone}
 use Rattle.catalogue.proofs.faults.rows_fault.Statement.{statement}
 use Rattle.catalogue.proofs.faults.rows_fault.Tie as tie
 

@@ -6,11 +6,11 @@ use native.Mathlib.Omega.{arith}
 use borrow.Author.Needs.{needs}
 use borrow.Author.Tests.{lt-ltb, le-ltb, le-leb, lt-leb}
 use lib.ListN.{length, take, drop, length-take, length-drop}
-use Rattle.catalogue.specs.Catalogue.{arity, rowCount, rowsBegin, featuresRead}
-use Rattle.catalogue.specs.Fault.{ruleFault, featuresFault, rowsFault}
-use Rattle.catalogue.proofs.Alone.{rows-alone}
-use Rattle.catalogue.proofs.Steps.{first-row, last-row}
-use Rattle.catalogue.proofs.Widths.{rows-few}
+use Rattle.builds.specs.Catalogue.{arity, rowCount, rowsBegin, featuresRead}
+use Rattle.builds.specs.Fault.{ruleFault, featuresFault, rowsFault}
+use Rattle.builds.proofs.Alone.{rows-alone}
+use Rattle.builds.proofs.Steps.{first-row, last-row}
+use Rattle.builds.proofs.Widths.{rows-few}
 use Rattle.catalogue.proofs.faults.rule_fault.Statement.{statement}
 use Rattle.catalogue.proofs.faults.rule_fault.Tie as tie
 

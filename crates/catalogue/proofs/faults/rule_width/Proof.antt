@@ -2,7 +2,7 @@
 use Prim.Native.Nat.{_*_, _<_}
 use native.Mathlib.Omega.{arith}
 use borrow.Author.Needs.{needs}
-use Rattle.catalogue.proofs.Widths.{rows-few}
+use Rattle.builds.proofs.Widths.{rows-few}
 use Rattle.catalogue.proofs.faults.rule_width.Statement.{statement}
 use Rattle.catalogue.proofs.faults.rule_width.Tie as tie
 

@@ -9,11 +9,11 @@ use native.Mathlib.Omega.{arith}
 use borrow.Author.Needs.{needs}
 use lib.ListN.{length, drop, length-drop}
 use lib.Seq.{drop-drop}
-use Rattle.catalogue.specs.Catalogue.{width, isEmpty}
-use Rattle.catalogue.specs.Fault.{ruleFault, rulesFault}
-use Rattle.catalogue.proofs.Inversion.{ruleFault-zero}
-use Rattle.catalogue.proofs.WholeRule.{Whole}
-use Rattle.catalogue.proofs.Steps.{left-none, left-lent, first-row}
+use Rattle.builds.specs.Catalogue.{width, isEmpty}
+use Rattle.builds.specs.Fault.{ruleFault, rulesFault}
+use Rattle.builds.proofs.Inversion.{ruleFault-zero}
+use Rattle.builds.proofs.WholeRule.{Whole}
+use Rattle.builds.proofs.Steps.{left-none, left-lent, first-row}
 use Rattle.catalogue.proofs.faults.rules_fault.Statement.{statement}
 use Rattle.catalogue.proofs.faults.rules_fault.Tie as tie
 

@@ -7,8 +7,8 @@ use native.Mathlib.Omega.{arith}
 use borrow.Author.Needs.{needs}
 use borrow.Author.Tests.{le-leb, lt-leb}
 use lib.ListN.{length, getD, drop}
-use Rattle.catalogue.specs.Fault.{sizesFault}
-use Rattle.catalogue.proofs.Steps.{left-next, left-none}
+use Rattle.builds.specs.Fault.{sizesFault}
+use Rattle.builds.proofs.Steps.{left-next, left-none}
 use Rattle.catalogue.proofs.faults.sizes_fault.Statement.{statement}
 use Rattle.catalogue.proofs.faults.sizes_fault.Tie as tie
 

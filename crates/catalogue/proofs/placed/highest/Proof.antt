@@ -4,8 +4,8 @@ use mathlib.Core.Path.{_≡_}
 use mathlib.Core.Logic.{⊎-elim}
 use native.Mathlib.Omega.{arith}
 use lib.ListN.{length, drop}
-use Rattle.catalogue.specs.Rule.{highest}
-use Rattle.catalogue.proofs.PlacedSteps.{highest-step, highest-end}
+use Rattle.builds.specs.Rule.{highest}
+use Rattle.builds.proofs.PlacedSteps.{highest-step, highest-end}
 use borrow.Author.Needs.{needs}
 use Rattle.catalogue.proofs.placed.highest.Statement.{statement}
 use Rattle.catalogue.proofs.placed.highest.Tie as tie

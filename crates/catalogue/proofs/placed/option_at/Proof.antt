@@ -1,6 +1,6 @@
 -- The feature lies within what is placed, so the default of the reading does not matter.
 use native.Mathlib.Omega.{arith}
-use Rattle.catalogue.proofs.PlacedSteps.{getD-within}
+use Rattle.builds.proofs.PlacedSteps.{getD-within}
 use borrow.Author.Needs.{needs}
 use Rattle.catalogue.proofs.placed.option_at.Statement.{statement}
 use Rattle.catalogue.proofs.placed.option_at.Tie as tie

@@ -6,12 +6,12 @@ use mathlib.Core.Bool.{Bool, true, _&&_}
 use native.Mathlib.Omega.{arith}
 use borrow.Author.Tests.{not-true, not-false}
 use lib.ListN.{length, drop, length-drop}
-use Rattle.catalogue.specs.Rule.{satisfiesAll, passes}
-use Rattle.catalogue.specs.Catalogue.{featuresRead, rulesRead}
-use Rattle.catalogue.specs.Starts.{wholeRule, EachBelow, rulesFrom}
-use Rattle.catalogue.proofs.Steps.{left-lent}
-use Rattle.catalogue.proofs.WholeRule.{whole}
-use Rattle.catalogue.proofs.Starts.{passes-by-starts, passes-step, passes-end, start-whole, start-below}
+use Rattle.builds.specs.Rule.{satisfiesAll, passes}
+use Rattle.builds.specs.Catalogue.{featuresRead, rulesRead}
+use Rattle.builds.specs.inner.Starts.{wholeRule, EachBelow, rulesFrom}
+use Rattle.builds.proofs.Steps.{left-lent}
+use Rattle.builds.proofs.WholeRule.{whole}
+use Rattle.builds.proofs.Starts.{passes-by-starts, passes-step, passes-end, start-whole, start-below}
 use borrow.Author.Needs.{needs}
 use Rattle.catalogue.proofs.placed.passes.Statement.{statement}
 use Rattle.catalogue.proofs.placed.passes.Tie as tie

@@ -4,9 +4,9 @@ use Prim.Native.Nat.{_≤_, _-_}
 use mathlib.Core.Path.{_≡_, sym, _∙_}
 use native.Mathlib.Omega.{arith}
 use lib.ListN.{length, drop}
-use Rattle.catalogue.specs.Rule.{matches, optionsAt}
-use Rattle.catalogue.proofs.Every.{every-at}
-use Rattle.catalogue.proofs.PlacedSteps.{matches-step, matches-stop, matches-end}
+use Rattle.builds.specs.Rule.{matches, optionsAt}
+use Rattle.builds.proofs.Every.{every-at}
+use Rattle.builds.proofs.PlacedSteps.{matches-step, matches-stop, matches-end}
 use borrow.Author.Needs.{needs}
 use Rattle.catalogue.proofs.placed.row_matches.Statement.{statement}
 use Rattle.catalogue.proofs.placed.row_matches.Tie as tie

@@ -4,7 +4,7 @@ use Prim.Native.Nat.{_+_, _-_, _*_, _≤_}
 use mathlib.Core.Path.{_≡_, _∙_, ap₂}
 use native.Mathlib.Omega.{arith}
 use lib.ListN.{length, take, drop, length-take, length-drop}
-use Rattle.catalogue.proofs.WholeRule.{Whole, whole, satisfied-by-parts}
+use Rattle.builds.proofs.WholeRule.{Whole, whole, satisfied-by-parts}
 use borrow.Author.Needs.{needs}
 use Rattle.catalogue.proofs.placed.satisfied.Statement.{statement}
 use Rattle.catalogue.proofs.placed.satisfied.Tie as tie

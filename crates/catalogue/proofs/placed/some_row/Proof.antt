@@ -3,10 +3,10 @@ use Prim.Native.Nat.{ℕ, _+_, _-_, _*_, _≤_}
 use mathlib.Core.Path.{_≡_, refl, sym, _∙_}
 use native.Mathlib.Omega.{arith}
 use lib.ListN.{length, take, drop}
-use Rattle.catalogue.specs.Rule.{matches, optionsAt, someRow}
-use Rattle.catalogue.specs.Catalogue.{rowsRead}
-use Rattle.catalogue.proofs.Every.{every-at}
-use Rattle.catalogue.proofs.PlacedSteps.{row-length, RowsLeft, row-here, row-found, row-passed, no-row-left}
+use Rattle.builds.specs.Rule.{matches, optionsAt, someRow}
+use Rattle.builds.specs.Catalogue.{rowsRead}
+use Rattle.builds.proofs.Every.{every-at}
+use Rattle.builds.proofs.PlacedSteps.{row-length, RowsLeft, row-here, row-found, row-passed, no-row-left}
 use borrow.Author.Needs.{needs}
 use Rattle.catalogue.proofs.placed.some_row.Statement.{statement}
 use Rattle.catalogue.proofs.placed.some_row.Tie as tie

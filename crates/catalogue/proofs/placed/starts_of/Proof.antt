@@ -6,11 +6,11 @@ use mathlib.Core.Logic.{⊎-elim}
 use mathlib.Core.List.{List}
 use native.Mathlib.Omega.{arith}
 use lib.ListN.{length, take, drop, length-drop, getD}
-use Rattle.catalogue.specs.Rule.{highest}
-use Rattle.catalogue.specs.Catalogue.{arity, width, featuresRead}
-use Rattle.catalogue.proofs.Steps.{left-lent}
-use Rattle.catalogue.proofs.WholeRule.{Whole}
-use Rattle.catalogue.proofs.AllStarts.{Noted, none-noted, whole-now, below-64, note, pass-over, all-noted}
+use Rattle.builds.specs.Rule.{highest}
+use Rattle.builds.specs.Catalogue.{arity, width, featuresRead}
+use Rattle.builds.proofs.Steps.{left-lent}
+use Rattle.builds.proofs.WholeRule.{Whole}
+use Rattle.builds.proofs.AllStarts.{Noted, none-noted, whole-now, below-64, note, pass-over, all-noted}
 use borrow.Author.Needs.{needs}
 use Rattle.catalogue.proofs.placed.starts_of.Statement.{statement}
 use Rattle.catalogue.proofs.placed.starts_of.Tie as tie

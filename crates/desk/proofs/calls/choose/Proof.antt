@@ -5,14 +5,14 @@ use native.Mathlib.Nat.{mod-eq-of-lt}
 use mathlib.Core.Path.{_≡_, refl, sym, _∙_}
 use native.Mathlib.Omega.{arith}
 use borrow.Author.Needs.{needs}
-use Rattle.catalogue.specs.Fault.{member}
-use Rattle.seat.proofs.PlaceBounds.{first-has-option}
-use Rattle.desk.specs.Call.{choose}
-use Rattle.desk.specs.Refusal.{refusal}
-use Rattle.desk.specs.Perform.{done}
-use Rattle.desk.proofs.AcceptedCalls.{accepted}
-use Rattle.desk.proofs.NamedBounds.{feature-bounds}
-use Rattle.desk.proofs.OneSeat.{refused-call, own-share-length, one-seat}
+use Rattle.builds.specs.Fault.{member}
+use Rattle.search.proofs.PlaceBounds.{first-has-option}
+use Rattle.runs.specs.Call.{choose}
+use Rattle.runs.specs.Refusal.{refusal}
+use Rattle.runs.specs.Perform.{done}
+use Rattle.runs.proofs.AcceptedCalls.{accepted}
+use Rattle.runs.proofs.NamedBounds.{feature-bounds}
+use Rattle.runs.proofs.OneSeat.{refused-call, own-share-length, one-seat}
 use Rattle.desk.proofs.calls.choose.Statement.{statement}
 use Rattle.desk.proofs.calls.choose.Tie as tie
 

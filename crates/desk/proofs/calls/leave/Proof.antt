@@ -3,12 +3,12 @@ use Prim.Native.Nat.{_<_}
 use mathlib.Core.Path.{_≡_, refl, sym, _∙_}
 use native.Mathlib.Omega.{arith}
 use borrow.Author.Needs.{needs}
-use Rattle.catalogue.specs.Fault.{member}
-use Rattle.desk.specs.Call.{leave}
-use Rattle.desk.specs.Refusal.{refusal}
-use Rattle.desk.specs.Perform.{done}
-use Rattle.desk.proofs.AcceptedCalls.{accepted}
-use Rattle.desk.proofs.OneSeat.{refused-call, own-share-length, one-seat}
+use Rattle.builds.specs.Fault.{member}
+use Rattle.runs.specs.Call.{leave}
+use Rattle.runs.specs.Refusal.{refusal}
+use Rattle.runs.specs.Perform.{done}
+use Rattle.runs.proofs.AcceptedCalls.{accepted}
+use Rattle.runs.proofs.OneSeat.{refused-call, own-share-length, one-seat}
 use Rattle.desk.proofs.calls.leave.Statement.{statement}
 use Rattle.desk.proofs.calls.leave.Tie as tie
 

@@ -6,10 +6,10 @@ use mathlib.Core.List.{List}
 use mathlib.Core.Logic.{⊎-elim}
 use lib.ListN.{length}
 use borrow.Author.Needs.{needs}
-use Rattle.catalogue.specs.Catalogue.{Catalogue}
-use Rattle.desk.specs.Refusal.{openRefusal}
-use Rattle.desk.proofs.AcceptedCalls.{opened}
-use Rattle.desk.proofs.Performed.{opening-accepted, opening-refused}
+use Rattle.builds.specs.Catalogue.{Catalogue}
+use Rattle.runs.specs.Refusal.{openRefusal}
+use Rattle.runs.proofs.AcceptedCalls.{opened}
+use Rattle.runs.proofs.Performed.{opening-accepted, opening-refused}
 use Rattle.desk.proofs.calls.open.Statement.{statement}
 use Rattle.desk.proofs.calls.open.Tie as tie
 

@@ -3,15 +3,15 @@ use Prim.Native.Nat.{ℕ, zero, suc, _+_, _-_, _*_, _<_}
 use mathlib.Core.Path.{_≡_, refl, sym, ap, _∙_}
 use native.Mathlib.Omega.{arith}
 use borrow.Author.Needs.{needs}
-use Rattle.catalogue.specs.Fault.{member}
-use Rattle.desk.specs.Call.{example}
-use Rattle.desk.specs.Answers.{exampleBegins}
-use Rattle.desk.specs.Refusal.{refusal}
-use Rattle.desk.specs.Perform.{Outcome, done}
-use Rattle.desk.proofs.Performed.{perform-accepted}
-use Rattle.desk.proofs.AcceptedCalls.{accepted}
-use Rattle.desk.proofs.OneSeat.{refused-call}
-use Rattle.desk.proofs.NamedBounds.{feature-bounds}
+use Rattle.builds.specs.Fault.{member}
+use Rattle.runs.specs.Call.{example}
+use Rattle.runs.specs.Answers.{exampleBegins}
+use Rattle.runs.specs.Refusal.{refusal}
+use Rattle.runs.specs.Perform.{Outcome, done}
+use Rattle.runs.proofs.Performed.{perform-accepted}
+use Rattle.runs.proofs.AcceptedCalls.{accepted}
+use Rattle.runs.proofs.OneSeat.{refused-call}
+use Rattle.runs.proofs.NamedBounds.{feature-bounds}
 use Rattle.desk.proofs.Readings.{example-on-board}
 use Rattle.desk.proofs.reading.example.Statement.{statement}
 use Rattle.desk.proofs.reading.example.Tie as tie

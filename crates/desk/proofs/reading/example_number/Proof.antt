@@ -1,7 +1,7 @@
 -- The number that a call answers is its refusal's.
 use mathlib.Core.Path.{refl, sym, _∙_}
 use borrow.Author.Needs.{needs}
-use Rattle.desk.proofs.Performed.{perform-number}
+use Rattle.runs.proofs.Performed.{perform-number}
 use Rattle.desk.proofs.reading.example_number.Statement.{statement}
 use Rattle.desk.proofs.reading.example_number.Tie as tie
 

@@ -3,17 +3,17 @@
 use mathlib.Core.Path.{_≡_, refl, sym, _∙_}
 use native.Mathlib.Omega.{arith}
 use borrow.Author.Needs.{needs}
-use Rattle.catalogue.specs.Fault.{member}
-use Rattle.seat.specs.Look.{maskOf}
-use Rattle.seat.proofs.Bits.{bit-count}
-use Rattle.desk.specs.Room.{seatAt}
-use Rattle.desk.specs.Call.{options}
-use Rattle.desk.specs.Refusal.{refusal}
-use Rattle.desk.specs.Perform.{done}
-use Rattle.desk.proofs.Performed.{perform-accepted}
-use Rattle.desk.proofs.AcceptedCalls.{accepted}
-use Rattle.desk.proofs.OneSeat.{refused-call}
-use Rattle.desk.proofs.NamedBounds.{FeatureBounds, feature-bounds}
+use Rattle.builds.specs.Fault.{member}
+use Rattle.search.specs.Look.{maskOf}
+use Rattle.search.proofs.Bits.{bit-count}
+use Rattle.runs.specs.Room.{seatAt}
+use Rattle.runs.specs.Call.{options}
+use Rattle.runs.specs.Refusal.{refusal}
+use Rattle.runs.specs.Perform.{done}
+use Rattle.runs.proofs.Performed.{perform-accepted}
+use Rattle.runs.proofs.AcceptedCalls.{accepted}
+use Rattle.runs.proofs.OneSeat.{refused-call}
+use Rattle.runs.proofs.NamedBounds.{FeatureBounds, feature-bounds}
 use Rattle.desk.proofs.Readings.{mask-of-16-bits}
 use Rattle.desk.proofs.reading.options.Statement.{statement}
 use Rattle.desk.proofs.reading.options.Tie as tie

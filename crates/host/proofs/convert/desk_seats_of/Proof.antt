@@ -7,7 +7,7 @@ use borrow.Author.Needs.{needs}
 use lib.ListN.{length, take, length-set}
 use Rattle.host.specs.Records.{deskSeatOf}
 use Rattle.host.proofs.KnownStates.{noHostSeat}
-use Rattle.seat.proofs.Filled.{one-more, all-made}
+use Rattle.search.proofs.Filled.{one-more, all-made}
 use Rattle.host.proofs.convert.desk_seats_of.Statement.{statement}
 use Rattle.host.proofs.convert.desk_seats_of.Tie as tie
 

@@ -5,9 +5,9 @@ use mathlib.Core.List.{map}
 use native.Mathlib.Omega.{arith}
 use borrow.Author.Needs.{needs}
 use lib.ListN.{length, take, length-set}
-use Rattle.seat.specs.Clinic.{noSeat}
+use Rattle.search.specs.Clinic.{noSeat}
 use Rattle.host.specs.Records.{hostSeatOf}
-use Rattle.seat.proofs.Filled.{one-more, all-made}
+use Rattle.search.proofs.Filled.{one-more, all-made}
 use Rattle.host.proofs.convert.host_seats_of.Statement.{statement}
 use Rattle.host.proofs.convert.host_seats_of.Tie as tie
 

@@ -1,6 +1,6 @@
 -- The only candidate is the first above v just where it is greater than v.
 use borrow.Author.Tests.{lt-ltb, le-ltb}
-use Rattle.seat.specs.Candidates.{firstAbove}
+use Rattle.search.specs.Candidates.{firstAbove}
 use Rattle.seat.proofs.candidates.above.Statement.{statement}
 use Rattle.seat.proofs.candidates.above.Tie as tie
 

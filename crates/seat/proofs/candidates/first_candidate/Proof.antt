@@ -2,7 +2,7 @@
 use mathlib.Core.Path.{sym}
 use native.Mathlib.Omega.{arith}
 use borrow.Author.Needs.{needs}
-use Rattle.seat.proofs.CandidatesAt.{first-own, first-chosen, first-free}
+use Rattle.search.proofs.CandidatesAt.{first-own, first-chosen, first-free}
 use Rattle.seat.proofs.candidates.first_candidate.Statement.{statement}
 use Rattle.seat.proofs.candidates.first_candidate.Tie as tie
 

@@ -2,7 +2,7 @@
 use mathlib.Core.Path.{sym, _∙_}
 use native.Mathlib.Omega.{arith}
 use borrow.Author.Needs.{needs}
-use Rattle.seat.proofs.CandidatesAt.{next-own, next-chosen, next-free, next-none}
+use Rattle.search.proofs.CandidatesAt.{next-own, next-chosen, next-free, next-none}
 use Rattle.seat.proofs.candidates.next_candidate.Statement.{statement}
 use Rattle.seat.proofs.candidates.next_candidate.Tie as tie
 

@@ -1,5 +1,5 @@
 -- The share comes back filled with 255; the state is that of the first pair, which `started` makes.
-use Rattle.seat.specs.Step.{posted}
+use Rattle.search.specs.Step.{posted}
 use borrow.Author.Needs.{needs}
 use Rattle.seat.proofs.job.post.Statement.{statement}
 use Rattle.seat.proofs.job.post.Tie as tie

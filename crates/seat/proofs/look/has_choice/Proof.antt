@@ -2,7 +2,7 @@
 use mathlib.Core.Path.{_≡_}
 use lib.ListN.{length}
 use borrow.Author.Needs.{needs}
-use Rattle.catalogue.proofs.PlacedSteps.{getD-within}
+use Rattle.builds.proofs.PlacedSteps.{getD-within}
 use Rattle.seat.proofs.look.has_choice.Statement.{statement}
 use Rattle.seat.proofs.look.has_choice.Tie as tie
 

@@ -1,0 +1,11 @@
+-- What a reader of this crate must believe, lowest first; `inner` is for code and proofs alone.
+pub mod Every
+pub mod Checks
+pub mod Rule
+pub mod Catalogue
+pub mod Fault
+pub mod Format
+pub mod Build
+pub mod Gic
+pub mod Builds
+pub mod inner

@@ -1,0 +1,60 @@
+-- Where the rules begin that are tested at a feature. What the inner functions say of a rule list that was checked;
+-- no promise cites this file.
+use Prim.Native.Nat.{ℕ, zero, suc, _+_, _*_, _≤_, _<_}
+use mathlib.Core.Path.{_≡_}
+use mathlib.Core.Bool.{Bool, cond, _&&_, _||_}
+use mathlib.Core.List.{List, [], _∷_}
+use lib.ListN.{length, getD, take, drop}
+use lib.Dec.{leb, eqb}
+use Rattle.builds.specs.Every.{Every}
+use Rattle.builds.specs.Rule.{Rule, highest, someRow}
+use Rattle.builds.specs.Catalogue.{arity, width, featuresRead, rowsRead, isEmpty, ruleRead}
+
+-- the rule at the front of a list has an arity of 1 to 6 and lies in the list whole
+abbrev pub wholeRule : List ℕ → Bool
+wholeRule list = leb 2 (length list) && (leb 1 (arity list) && (leb (arity list) 6 && leb (width list) (length list)))
+
+-- the list is at most so many such rules, one after another
+unfoldable pub wholeRules : ℕ → List ℕ → Bool
+wholeRules zero list = isEmpty list
+wholeRules (suc n) list = isEmpty list || (wholeRule list && wholeRules n (drop (width list) list))
+
+-- each of these features is below n
+abbrev pub EachBelow : ℕ → List ℕ → Type 0
+EachBelow n features = Every (λ (feature : ℕ). feature < n) features
+
+-- each feature of each of these rules is below n
+abbrev pub FeaturesBelow : ℕ → List Rule → Type 0
+FeaturesBelow n rules = Every (λ (rule : Rule). EachBelow n (rule .features)) rules
+
+-- a list is whole rows of k options, one after another
+abbrev pub WholeRows : ℕ → List ℕ → Type 0
+WholeRows k list = (count : ℕ) × (k * count ≡ length list)
+
+-- the answer to the row test over such a list, at the count of rows that makes up its length
+abbrev pub RowTest : ℕ → List ℕ → List ℕ → Bool → Type 0
+RowTest k list options answer = (count : ℕ) → k * count ≡ length list → answer ≡ someRow (rowsRead k count list) options
+
+-- where the rules begin whose highest feature is j, of at most n rules from a place in the list on
+unfoldable pub startsFrom : ℕ → List ℕ → ℕ → ℕ → List ℕ
+startsFrom zero list place j = []
+startsFrom (suc n) list place j =
+    cond (isEmpty (drop place list)) []
+    (cond (eqb (highest (featuresRead (drop place list))) j)
+    (place ∷ startsFrom n list (place + width (drop place list)) j)
+    (startsFrom n list (place + width (drop place list)) j))
+
+abbrev pub startsAt : List ℕ → ℕ → List ℕ
+startsAt list j = startsFrom 64 list 0 j
+
+-- the rules that begin at those places
+unfoldable pub rulesFrom : List ℕ → List ℕ → List Rule
+rulesFrom list [] = []
+rulesFrom list (place ∷ places) = ruleRead (drop place list) ∷ rulesFrom list places
+
+-- 64 numbers for each of 16 features: where the rules begin that are tested there, and how many there are
+pub record AllStarts (rules places counts : List ℕ) : Type 0 where
+  pub room : length places ≡ 1024
+  pub each : length counts ≡ 16
+  pub few : (j : ℕ) → j < 16 → getD counts j 0 ≤ 64
+  pub are-starts : (j : ℕ) → j < 16 → take (getD counts j 0) (drop (j * 64) places) ≡ startsAt rules j

@@ -1,0 +1,194 @@
+-- What the state asks decides, or what every state asks; a closed seat is empty, and choices and masks that are empty fit.
+use Prim.Native.Nat.{ℕ, _<_, _^_}
+use mathlib.Core.Path.{_≡_, refl, sym, ap, _∙_}
+use mathlib.Core.Bool.{Bool, true, false, _&&_, and-eq-true-iff}
+use mathlib.Core.List.{List}
+use borrow.Author.Needs.{needs}
+use borrow.Author.Tests.{not-true, not-false, eqb-true, lt-ltb}
+use lib.ListN.{getD}
+use lib.Dec.{eqb}
+use lib.Pow.{pow-pos}
+use Rattle.builds.specs.Catalogue.{Catalogue}
+use Rattle.builds.proofs.Faultless.{fault-zero}
+use Rattle.search.specs.declared.Seat.{Seat}
+use Rattle.search.specs.declared.State.{State}
+use Rattle.search.specs.declared.State.the-variants.{Closed, Ready, AtWork}
+use Rattle.search.specs.Fit.{everyBelow, choiceFits, maskFits, entryFits, emptyAt, depthOf, stateFits, seatFits}
+use Rattle.search.proofs.Fits.{every-below, below-every}
+use Rattle.fit.proofs.record.seat_fits.Statement.{statement}
+use Rattle.fit.proofs.record.seat_fits.Tie as tie
+
+and-off : (others trial : Bool) → (others && false && trial) ≡ false
+and-off true trial = refl
+and-off false trial = refl
+
+and-on : (others trial : Bool) → (others && true && trial) ≡ (others && trial)
+and-on true trial = refl
+and-on false trial = refl
+
+module _ (sizes choices masks : List ℕ) (empty : everyBelow 16 (emptyAt choices masks) ≡ true) where
+  empty-at : (f : ℕ) → f < 16 → (eqb (getD choices f 255) 255 ≡ true) × (eqb (getD masks f 0) 0 ≡ true)
+  empty-at f l =
+      and-eq-true-iff (eqb (getD choices f 255) 255) (eqb (getD masks f 0) 0) .0 (every-below (emptyAt choices masks) 16 empty f l)
+
+  no-choice-fits : everyBelow 16 (choiceFits sizes choices) ≡ true
+  no-choice-fits = below-every (choiceFits sizes choices) 16 (λ (f : ℕ) (l : f < 16). rw (empty-at f l .0))
+
+  no-mask-fits : everyBelow 16 (maskFits sizes masks) ≡ true
+  no-mask-fits =
+      below-every (maskFits sizes masks) 16
+      (λ (f : ℕ) (l : f < 16). lt-ltb (getD masks f 0) (2 ^ getD sizes f 0) (rw (eqb-true (getD masks f 0) 0 (empty-at f l .1)) (pow-pos (getD sizes f 0))))
+
+module _ (catalogue : Catalogue) (seat : Seat) (state : State) (at : seat .state ≡ state) where
+  abbrev entries : Bool
+  entries = everyBelow 16 (choiceFits (catalogue .sizes) (seat .choices)) && everyBelow 16 (maskFits (catalogue .sizes) (seat .masks))
+
+  abbrev trial-at : ℕ → Bool
+  trial-at depth = everyBelow 16 (entryFits (catalogue .sizes) depth (seat .trial))
+
+  state-off : stateFits catalogue seat state ≡ false → seatFits catalogue seat ≡ false
+  unfolding seatFits
+  state-off off =
+      let here : stateFits catalogue seat (seat .state) ≡ false = ap (λ (s : State). stateFits catalogue seat s) at ∙ off in
+      rw here (and-off entries (trial-at (depthOf (seat .state))))
+
+  state-on : stateFits catalogue seat state ≡ true
+      → seatFits catalogue seat
+      ≡ (entries && trial-at (depthOf state))
+  unfolding seatFits
+  state-on holds =
+      let here : stateFits catalogue seat (seat .state) ≡ true = ap (λ (s : State). stateFits catalogue seat s) at ∙ holds in
+      let depth : depthOf (seat .state) ≡ depthOf state = ap (λ (s : State). depthOf s) at in
+      rw (here, depth) (and-on entries (trial-at (depthOf state)))
+
+abbrev given : tie.Start → Catalogue
+given start = record { sizes = start .args .sizes .now; list = start .args .rules .now }
+
+-- a closed seat that is empty is left to its trial
+closed-left : (catalogue : Catalogue) (seat : Seat) → seat .state ≡ Closed → everyBelow 16 (emptyAt (seat .choices) (seat .masks)) ≡ true
+    → seatFits catalogue seat ≡ everyBelow 16 (entryFits (catalogue .sizes) 0 (seat .trial))
+closed-left catalogue seat at empty =
+    rw (no-choice-fits (catalogue .sizes) (seat .choices) (seat .masks) empty, no-mask-fits (catalogue .sizes) (seat .choices) (seat .masks) empty) at (state-on catalogue seat Closed at empty)
+
+enum-told : tie.Need-enum-told
+enum-told c = search needs
+
+slice-aggregate-all-empty : tie.Need-slice-aggregate-all-empty
+slice-aggregate-all-empty c = search needs
+
+slice-aggregate-all-empty-2 : tie.Need-slice-aggregate-all-empty-2
+slice-aggregate-all-empty-2 c = search needs
+
+all-empty-requires : tie.Need-all-empty-requires
+all-empty-requires c κs = search needs
+
+returns : tie.Need-returns
+returns c =
+    let start = c .before .before .before .before .before .before .before .before .before .before .before in
+    sym
+    (state-off (given start) (start .args .seat) Closed (c .before .before .before .before .enum-told .given .1)
+    (sym (c .before .all-empty .ensures) ∙ not-true _ (c .if1 .taken)))
+
+slice-aggregate-trial-fits : tie.Need-slice-aggregate-trial-fits
+slice-aggregate-trial-fits c = search needs
+
+trial-fits-requires : tie.Need-trial-fits-requires
+trial-fits-requires c κs = search needs
+
+enum-told-2 : tie.Need-enum-told-2
+enum-told-2 c = search needs
+
+slice-aggregate-open-fits : tie.Need-slice-aggregate-open-fits
+slice-aggregate-open-fits c = search needs
+
+slice-aggregate-open-fits-2 : tie.Need-slice-aggregate-open-fits-2
+slice-aggregate-open-fits-2 c = search needs
+
+slice-aggregate-open-fits-3 : tie.Need-slice-aggregate-open-fits-3
+slice-aggregate-open-fits-3 c = search needs
+
+open-fits-requires : tie.Need-open-fits-requires
+open-fits-requires c κs =
+    let start = c .before .before .before .before .before .before .before .before .before .before in
+    (search needs, search needs, search needs, fault-zero (given start) (start .pre) .sizes-fit)
+
+enum-known-state : tie.Need-enum-known-state
+enum-known-state c = search needs
+
+place-fits-requires : tie.Need-place-fits-requires
+place-fits-requires c κs = search needs
+
+returns-2 : tie.Need-returns-2
+returns-2 c =
+    let start = c .before .before .before .before .before .before .before .before .before .before in
+    let state = c .before .before .before .state .given in
+    sym
+    (state-off (given start) (start .args .seat) (AtWork (state .0 .0)) (state .1)
+    (sym (c .before .place-fits .ensures) ∙ not-true _ (c .if2 .taken)))
+
+slice-aggregate-open-fits-4 : tie.Need-slice-aggregate-open-fits-4
+slice-aggregate-open-fits-4 c = search needs
+
+slice-aggregate-open-fits-5 : tie.Need-slice-aggregate-open-fits-5
+slice-aggregate-open-fits-5 c = search needs
+
+slice-aggregate-open-fits-6 : tie.Need-slice-aggregate-open-fits-6
+slice-aggregate-open-fits-6 c = search needs
+
+cast-open-fits : tie.Need-cast-open-fits
+cast-open-fits c = search needs
+
+open-fits-requires-2 : tie.Need-open-fits-requires-2
+open-fits-requires-2 c κs =
+    let start = c .before .before .before .before .before .before .before .before .before .before .before .before .before .before in
+    (search needs, search needs, search needs, fault-zero (given start) (start .pre) .sizes-fit)
+
+returns-3 : tie.Need-returns-3
+returns-3 c =
+    let start = c .before .before .before .before .before .before .before .before .before .before .before .before .before in
+    c .trial-fits .ensures
+    ∙ sym
+    (closed-left (given start) (start .args .seat) (c .before .before .before .before .before .before .enum-told .given .1)
+    (sym (c .before .before .before .all-empty .ensures) ∙ not-false _ (c .before .before .if1 .left)))
+
+returns-4 : tie.Need-returns-4
+returns-4 c =
+    let start = c .before .before .before .before .before .before .before .before .before .before .before in
+    c .open-fits .ensures ∙ sym (state-on (given start) (start .args .seat) Ready (c .before .before .before .before .enum-told2 .given .1) refl)
+
+returns-5 : tie.Need-returns-5
+returns-5 c =
+    let start = c .before .before .before .before .before .before .before .before .before .before .before .before .before .before .before in
+    let state = c .before .before .before .before .before .before .before .before .state .given in
+    c .open-fits2 .ensures
+    ∙ sym
+    (state-on (given start) (start .args .seat) (AtWork (state .0 .0)) (state .1)
+    (sym (c .before .before .before .before .before .before .place-fits .ensures) ∙ not-false _ (c .before .before .before .before .before .if2 .left)))
+
+pub seat-fits-spec : {M : Type 1} → statement M
+seat-fits-spec =
+    tie.close
+    (tie.spec
+    enum-told
+    slice-aggregate-all-empty
+    slice-aggregate-all-empty-2
+    all-empty-requires
+    returns
+    slice-aggregate-trial-fits
+    trial-fits-requires
+    enum-told-2
+    slice-aggregate-open-fits
+    slice-aggregate-open-fits-2
+    slice-aggregate-open-fits-3
+    open-fits-requires
+    enum-known-state
+    place-fits-requires
+    returns-2
+    slice-aggregate-open-fits-4
+    slice-aggregate-open-fits-5
+    slice-aggregate-open-fits-6
+    cast-open-fits
+    open-fits-requires-2
+    returns-3
+    returns-4
+    returns-5)

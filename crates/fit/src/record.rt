@@ -1,0 +1,188 @@
+// Number 20, as far as it speaks of one seat.
+use search::Place;
+use search::Seat;
+use search::State;
+ghost use mathlib.Core.Path.{_≡_};
+ghost use mathlib.Core.Bool.{_&&_};
+ghost use Prim.Native.Nat.{_<_};
+ghost use lib.ListN.{length, getD};
+ghost use Rattle.builds.specs.Catalogue.{catalogueOf};
+ghost use Rattle.builds.specs.Fault.{faultOf, sizesFault};
+ghost use Rattle.search.specs.Fit.{everyBelow, choiceFits, maskFits, emptyAt, placeFits, seatFits, entryFits};
+ghost use Rattle.fit.specs.inner.Trial.{restFits, placedFits};
+
+// Whether a record fits a catalogue without a fault. A closed seat is empty, and what is empty fits any sizes.
+pub fn seat_fits(seat: Seat, sizes: &[u8], rules: &[u16]) -> bool
+    requires { ⌜ faultOf (catalogueOf (now sizes) (now rules)) ≡ 0 ⌝ }
+    ensures { λ r. ⌜ r ≡ seatFits (catalogueOf (now (sizes .entry)) (now (rules .entry))) seat ⌝ }
+{
+    let choices = seat.choices;
+    let masks = seat.masks;
+    let trial = seat.trial;
+    let state = seat.state;
+    match state {
+        State::Closed => {
+            if !all_empty(&choices, &masks) {
+                return false;
+            }
+            trial_fits(&trial, 0, sizes)
+        }
+        State::Ready => open_fits(&choices, &masks, &trial, 0, sizes),
+        State::AtWork(place) => {
+            if !place_fits(place, sizes, rules) {
+                return false;
+            }
+            open_fits(&choices, &masks, &trial, place.depth as usize, sizes)
+        }
+    }
+}
+
+// What is asked of the choices, masks and trial of an open seat.
+fn open_fits(choices: &[u8], masks: &[u16], trial: &[u8], depth: usize, sizes: &[u8]) -> bool
+    requires { ⌜ (length (now choices) ≡ 16) × (length (now masks) ≡ 16) × (length (now trial) ≡ 16)
+        × (sizesFault (now sizes) ≡ 0) ⌝ }
+    ensures { λ r. ⌜ r ≡ (everyBelow 16 (choiceFits (now (sizes .entry)) (now (choices .entry)))
+        && everyBelow 16 (maskFits (now (sizes .entry)) (now (masks .entry)))
+        && everyBelow 16 (entryFits (now (sizes .entry)) depth (now (trial .entry)))) ⌝ }
+{
+    if !choices_fit(choices, sizes) {
+        return false;
+    }
+    if !masks_fit(masks, sizes) {
+        return false;
+    }
+    trial_fits(trial, depth, sizes)
+}
+
+// Each choice is 255 or an option of its feature.
+fn choices_fit(choices: &[u8], sizes: &[u8]) -> bool
+    requires { ⌜ length (now choices) ≡ 16 ⌝ }
+    ensures { λ r. ⌜ r ≡ everyBelow 16 (choiceFits (now (sizes .entry)) (now (choices .entry))) ⌝ }
+{
+    let mut f = 0usize;
+    while f < 16 {
+        let choice = choices[f];
+        if choice != 255 {
+            if size_at(sizes, f) <= choice {
+                return false;
+            }
+        }
+        f += 1;
+    }
+    true
+}
+
+// Each mask has bits for options of its feature alone.
+fn masks_fit(masks: &[u16], sizes: &[u8]) -> bool
+    requires { ⌜ (length (now masks) ≡ 16) × (sizesFault (now sizes) ≡ 0) ⌝ }
+    ensures { λ r. ⌜ r ≡ everyBelow 16 (maskFits (now (sizes .entry)) (now (masks .entry))) ⌝ }
+{
+    let mut f = 0usize;
+    while f < 16 {
+        let above = 1u32 << size_at(sizes, f);
+        if above <= wide(masks[f]) {
+            return false;
+        }
+        f += 1;
+    }
+    true
+}
+
+// Entries before the depth are options of their features, the others 255.
+fn trial_fits(trial: &[u8], depth: usize, sizes: &[u8]) -> bool
+    requires { ⌜ length (now trial) ≡ 16 ⌝ }
+    ensures { λ r. ⌜ r ≡ everyBelow 16 (entryFits (now (sizes .entry)) depth (now (trial .entry))) ⌝ }
+{
+    if !rest_empty(trial, depth) {
+        return false;
+    }
+    placed_fit(trial, depth, sizes)
+}
+
+// No early exit, so that the entries of a seat that is not at work, all of them from depth 0 on, are compared at once.
+fn rest_empty(trial: &[u8], depth: usize) -> bool
+    requires { ⌜ length (now trial) ≡ 16 ⌝ }
+    ensures { λ r. ⌜ r ≡ everyBelow 16 (restFits depth (now (trial .entry))) ⌝ }
+{
+    let mut empty = true;
+    let mut f = 0usize;
+    while f < 16 {
+        if depth <= f {
+            if trial[f] != 255 {
+                empty = false;
+            }
+        }
+        f += 1;
+    }
+    empty
+}
+
+fn placed_fit(trial: &[u8], depth: usize, sizes: &[u8]) -> bool
+    requires { ⌜ length (now trial) ≡ 16 ⌝ }
+    ensures { λ r. ⌜ r ≡ everyBelow 16 (placedFits (now (sizes .entry)) depth (now (trial .entry))) ⌝ }
+{
+    let mut f = 0usize;
+    while f < 16 {
+        if depth <= f {
+            return true;
+        }
+        if size_at(sizes, f) <= trial[f] {
+            return false;
+        }
+        f += 1;
+    }
+    true
+}
+
+// No choice, and no mask bit. No early exit, as for the trial.
+fn all_empty(choices: &[u8], masks: &[u16]) -> bool
+    requires { ⌜ (length (now choices) ≡ 16) × (length (now masks) ≡ 16) ⌝ }
+    ensures { λ r. ⌜ r ≡ everyBelow 16 (emptyAt (now (choices .entry)) (now (masks .entry))) ⌝ }
+{
+    let mut empty = true;
+    let mut f = 0usize;
+    while f < 16 {
+        if choices[f] != 255 {
+            empty = false;
+        }
+        if masks[f] != 0 {
+            empty = false;
+        }
+        f += 1;
+    }
+    empty
+}
+
+fn place_fits(place: Place, sizes: &[u8], rules: &[u16]) -> bool
+    ensures { λ r. ⌜ r ≡ placeFits (catalogueOf (now (sizes .entry)) (now (rules .entry))) place ⌝ }
+{
+    let i = place.feature as usize;
+    let j = place.depth as usize;
+    if sizes.len() <= i {
+        return false;
+    }
+    if sizes.len() <= j {
+        return false;
+    }
+    if sizes[i] <= place.option {
+        return false;
+    }
+    place.next < sizes[j]
+}
+
+// The size of a feature, 0 for one that is not in the catalogue.
+fn size_at(sizes: &[u8], feature: usize) -> u8
+    ensures { λ r. ⌜ r ≡ getD (now (sizes .entry)) feature 0 ⌝ }
+{
+    if feature < sizes.len() {
+        sizes[feature]
+    } else {
+        0
+    }
+}
+
+fn wide(x: u16) -> u32
+    ensures { λ r. ⌜ (r ≡ x) × (r < 65536) ⌝ }
+{
+    x as u32
+}

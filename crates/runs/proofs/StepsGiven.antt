@@ -1,0 +1,72 @@
+-- Between its own calls a clinic makes just the steps that it is given: a turn that serves its seat is a step, and turns
+-- that serve others and other clinics' calls leave it alone.
+use Prim.Native.Nat.{ℕ, zero, suc}
+use mathlib.Core.Path.{_≡_, refl, sym, ap, _∙_}
+use mathlib.Core.Bool.{Bool, true, false, cond}
+use mathlib.Core.Option.{Option, none, some}
+use lib.Dec.{eqb}
+use borrow.Author.Tests.{eqb-true, eqb-false}
+use Rattle.builds.specs.Catalogue.{Catalogue}
+use Rattle.builds.specs.Fault.{faultOf}
+use Rattle.search.specs.Step.{steps}
+use Rattle.search.proofs.StepsAdded.{steps-added}
+use Rattle.runs.specs.Room.{Room, clinicAt}
+use Rattle.runs.specs.Call.{Call, turns, isOf}
+use Rattle.runs.specs.Turn.{served, is, turn, afterTurns, stepsGiven}
+use Rattle.runs.specs.Perform.{perform}
+use Rattle.runs.specs.Run.{given, taken}
+use Rattle.runs.proofs.Sound.{Sound, turn-sound}
+use Rattle.runs.proofs.ChecksPassed.{turns-accepted}
+use Rattle.runs.proofs.Performed.{perform-number}
+use Rattle.runs.proofs.OthersStay.{call-stays, turn-steps, turn-stays}
+use Rattle.runs.proofs.TurnsAdded.{turns-performed}
+use Rattle.runs.proofs.TurnsMade.{idle-turn}
+use Rattle.runs.proofs.CallKinds.{Kind, of-turns, of-a-seat, kind}
+
+no-turn-asked : (taken : Bool) → _≡_ {A = ℕ} (cond taken 0 0) 0
+no-turn-asked true = refl
+no-turn-asked false = refl
+
+module _ (catalogue : Catalogue) (fault : faultOf catalogue ≡ 0) (c : ℕ) where
+  one-turn : (room : Room) → Sound catalogue room
+      → clinicAt (turn catalogue room) c ≡ steps catalogue (cond (is c (served (room .desk))) 1 0) (clinicAt room c)
+  unfolding steps
+  one-turn room sound = go (served (room .desk)) refl
+    where
+      go : (found : Option ℕ) → served (room .desk) ≡ found
+          → clinicAt (turn catalogue room) c ≡ steps catalogue (cond (is c found) 1 0) (clinicAt room c)
+      go none idle = ap (λ (after : Room). clinicAt after c) (idle-turn catalogue room idle)
+      go (some d) found = its-turn (eqb c d) refl
+        where
+          its-turn : (t : Bool) → eqb c d ≡ t → clinicAt (turn catalogue room) c ≡ steps catalogue (cond t 1 0) (clinicAt room c)
+          its-turn true h = rw (eqb-true c d h) (turn-steps catalogue fault room sound d found)
+          its-turn false h = turn-stays catalogue fault room sound d found c (eqb-false c d h)
+
+  pub turns-step : (w : ℕ) (room : Room) → Sound catalogue room
+      → clinicAt (afterTurns catalogue w room) c ≡ steps catalogue (stepsGiven catalogue c w room) (clinicAt room c)
+  unfolding afterTurns stepsGiven steps
+  turns-step zero room sound = refl
+  turns-step (suc w) room sound =
+      let first : ℕ = cond (is c (served (room .desk))) 1 0 in
+      let later : ℕ = stepsGiven catalogue c w (turn catalogue room) in
+      turns-step w (turn catalogue room) (turn-sound catalogue fault room sound)
+      ∙ ap (steps catalogue later) (one-turn room sound)
+      ∙ sym (steps-added catalogue first later (clinicAt room c))
+
+  module _ (room : Room) (sound : Sound catalogue room) where
+    abbrev StepsBy : Call → Type 0
+    StepsBy call =
+        clinicAt (perform catalogue call room .room) c ≡ steps catalogue (given catalogue c call room) (clinicAt room c)
+
+    by-kind : {call : Call} → Kind call → isOf c call ≡ false → StepsBy call
+    unfolding stepsGiven steps
+    by-kind (of-turns w) other =
+        let taken = turns-accepted catalogue fault room sound w in
+        rw (perform-number catalogue (turns w) room, turns-performed catalogue room w taken, taken) (turns-step w room sound)
+    by-kind {call} (of-a-seat named asks-none) other =
+        rw (asks-none, no-turn-asked (taken catalogue call room))
+        (call-stays catalogue room (sound .eight) (sound .board-length) c call named other .0)
+
+    -- what a call that isn't its own does to a clinic: it gives it steps, or none
+    pub others-step : (call : Call) → isOf c call ≡ false → StepsBy call
+    others-step call = by-kind (kind call)

@@ -1,0 +1,42 @@
+-- The written search, from its top theorems down.
+--   ReadyJob: what a clinic sees when its job has ended
+--   FirstBuild: one pair's search finds the first build in dictionary order that has the option, or there is none
+--   JobSteps: a job is at its end after just K steps, and at work before
+--   JobResult: what masks and share hold then
+pub mod Bits
+pub mod NoBits
+pub mod Fits
+pub mod EveryBelow
+pub mod Filled
+pub mod Kept
+pub mod PlaceBounds
+pub mod ExamplePlaces
+pub mod Takes
+pub mod InTurn
+pub mod CandidatesAt
+pub mod CandidatesBelow
+pub mod GivenUp
+pub mod GoingBack
+pub mod TrialFits
+pub mod ClinicFits
+pub mod ArrayLengths
+pub mod StepFits
+pub mod StepWrites
+pub mod SearchSteps
+pub mod TrialLength
+pub mod PairSteps
+pub mod PairsInOrder
+pub mod PairsOfAJob
+pub mod StepsAdded
+pub mod JobSteps
+pub mod PairView
+pub mod WorkedPairs
+pub mod JobResult
+pub mod Fitting
+pub mod Allowed
+pub mod FirstCompletion
+pub mod Completed
+pub mod Completions
+pub mod FirstBuild
+pub mod ReadyOnce
+pub mod ReadyJob

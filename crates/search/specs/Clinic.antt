@@ -1,0 +1,70 @@
+-- What is one clinic's own: its seat's record and its share of the board, 4,096 bytes.
+use Prim.Native.Nat.{ℕ, _+_, _*_}
+use mathlib.Core.List.{List, [], _++_}
+use lib.ListN.{length, getD, take, drop, set, replicate}
+use Rattle.search.specs.declared.Seat.{Seat}
+use Rattle.search.specs.declared.State.{State}
+use Rattle.search.specs.declared.State.the-variants.{Closed}
+use Rattle.search.specs.Bits.{withBit}
+
+pub record Clinic : Type 0 where
+  pub seat : Seat
+  pub share : List ℕ
+
+-- a clinic, of its two parts
+abbrev pub clinicOf : Seat → List ℕ → Clinic
+clinicOf seat share = record { seat = seat; share = share }
+
+-- what is read past the last of some records; of no account
+abbrev pub noSeat : Seat
+noSeat = record { state = Closed; choices = []; masks = []; trial = [] }
+
+-- no choices, no options placed; no options left; a share that holds nothing
+abbrev pub nothing16 : List ℕ
+nothing16 = replicate 16 255
+
+abbrev pub noneLeft : List ℕ
+noneLeft = replicate 16 0
+
+abbrev pub emptyShare : List ℕ
+emptyShare = replicate 4096 255
+
+-- a record with a state and choices, and nothing else in it
+abbrev pub freshSeat : State → List ℕ → Seat
+freshSeat state choices = record { state = state; choices = choices; masks = noneLeft; trial = nothing16 }
+
+-- another state, masks and trial; all else as it was
+abbrev pub seatWith : State → List ℕ → List ℕ → Seat → Seat
+seatWith state masks trial seat = record { state = state; choices = seat .choices; masks = masks; trial = trial }
+
+abbrev pub closedSeat : Seat
+closedSeat = freshSeat Closed nothing16
+
+abbrev pub closedClinic : Clinic
+closedClinic = record { seat = closedSeat; share = emptyShare }
+
+-- bytes written over those that stand from a place on
+unfoldable pub put : List ℕ → ℕ → List ℕ → List ℕ
+put bytes place new = take place bytes ++ (new ++ drop (place + length new) bytes)
+
+-- where the example for option a of feature i stands in a share
+abbrev pub examplePlace : ℕ → ℕ → ℕ
+examplePlace i a = i * 256 + a * 16
+
+abbrev pub exampleIn : List ℕ → ℕ → ℕ → List ℕ
+exampleIn share i a = take 16 (drop (examplePlace i a) share)
+
+-- the example written, the bit set
+unfoldable pub withExample : ℕ → ℕ → List ℕ → Clinic → Clinic
+withExample i a example clinic = record {
+  seat = seatWith (clinic .seat .state) (set (clinic .seat .masks) i (withBit (getD (clinic .seat .masks) i 0) a))
+      (clinic .seat .trial) (clinic .seat);
+  share = put (clinic .share) (examplePlace i a) example;
+}
+
+-- another state and trial
+abbrev pub moved : State → List ℕ → Clinic → Clinic
+moved state trial clinic = record {
+  seat = seatWith state (clinic .seat .masks) trial (clinic .seat);
+  share = clinic .share;
+}

@@ -1,0 +1,35 @@
+-- The catalogues that the paper works by hand.
+use Prim.Native.Nat.{ℕ}
+use mathlib.Core.List.{List, [], _∷_, _++_}
+use lib.ListN.{set}
+use Rattle.builds.specs.Catalogue.{Catalogue}
+use Rattle.search.specs.Clinic.{nothing16}
+
+ruleA : List ℕ
+ruleA = 2 ∷ 4 ∷ 0 ∷ 1 ∷ 0 ∷ 1 ∷ 1 ∷ 0 ∷ 1 ∷ 2 ∷ 2 ∷ 1 ∷ []
+
+ruleB : List ℕ
+ruleB = 2 ∷ 4 ∷ 1 ∷ 2 ∷ 0 ∷ 0 ∷ 1 ∷ 1 ∷ 2 ∷ 0 ∷ 2 ∷ 1 ∷ []
+
+-- sizes 3, 3, 2; rule A on features 0, 1; rule B on features 1, 2
+unfoldable pub trolley : Catalogue
+unfolding ruleA ruleB
+trolley = record { sizes = 3 ∷ 3 ∷ 2 ∷ []; list = ruleA ++ ruleB }
+
+-- three features of size 2, each two unequal
+unfoldable pub allUnequal : Catalogue
+allUnequal = record {
+  sizes = 2 ∷ 2 ∷ 2 ∷ [];
+  list = 2 ∷ 2 ∷ 0 ∷ 1 ∷ 0 ∷ 1 ∷ 1 ∷ 0 ∷ 2 ∷ 2 ∷ 0 ∷ 2 ∷ 0 ∷ 1 ∷ 1 ∷ 0 ∷ 2 ∷ 2 ∷ 1 ∷ 2 ∷ 0 ∷ 1 ∷ 1 ∷ 0 ∷ [];
+}
+
+-- one feature of size 1, no rules
+unfoldable pub single : Catalogue
+single = record { sizes = 1 ∷ []; list = [] }
+
+abbrev pub noChoices : List ℕ
+noChoices = nothing16
+
+-- option 0 of feature 2
+abbrev pub lastChosen : List ℕ
+lastChosen = set nothing16 2 0

@@ -1,0 +1,322 @@
+// One step of the written search.
+use search::Place;
+use search::Seat;
+use search::State;
+use seat::Next;
+use seat::first_candidate;
+use seat::next_candidate;
+use seat::started;
+use seat::write_example;
+ghost use mathlib.Core.Path.{_≡_};
+ghost use mathlib.Core.Bool.{cond};
+ghost use Prim.Native.Nat.{ℕ, _+_, _<_, _≤_};
+ghost use lib.ListN.{length, getD, set};
+ghost use Rattle.builds.specs.Catalogue.{catalogueOf};
+ghost use Rattle.search.specs.declared.State.the-variants.{AtWork};
+ghost use Rattle.search.specs.Candidates.{chosenOtherwise};
+ghost use Rattle.search.specs.Clinic.{clinicOf};
+ghost use Rattle.search.specs.Step.{givenUp, tried, started, afterPair, stepAt};
+ghost use Rattle.search.specs.inner.Placed.{keptBefore, PlacedAt, edgeBytes};
+ghost use Rattle.step.specs.inner.Ways.{triedOf, depthIn};
+ghost use Rattle.step.specs.inner.Ways.{StepNeeds, Stepped, TryNeeds, ComesTo, masksWith};
+
+// What comes of trying an option.
+pub enum Way {
+    GoOn { depth: u8, next: u8 },
+    Build,
+    Exhausted,
+}
+
+// What a step comes to: the state after it, the depth before which options stay placed, and whether a build was found.
+pub struct After {
+    pub state: State,
+    pub depth: u8,
+    pub found: bool,
+}
+
+// One step: record and share of the written search after it. A seat that is not at work makes none.
+pub fn step(
+    seat: Seat,
+    share: &mut [u8],
+    sizes: &[u8],
+    rules: &[u16],
+    places: &[u16],
+    counts: &[u8],
+    edge: &[u8],
+) -> Seat
+    requires { ⌜ StepNeeds (catalogueOf (now sizes) (now rules)) seat
+        (now share) (now places) (now counts) (now edge) ⌝ }
+    ensures { λ r. ⌜ Stepped (catalogueOf (now (sizes .entry)) (now (rules .entry)))
+        (clinicOf seat (now (share .entry))) (clinicOf r (now (share .exit))) ⌝ }
+{
+    let state = seat.state;
+    match state {
+        State::Closed => seat,
+        State::Ready => seat,
+        State::AtWork(place) => step_at(seat, place, share, sizes, rules, places, counts, edge),
+    }
+}
+
+// The record is only read, and each array of the new one is made whole: so both are held in registers. What is placed is
+// copied for who looks options up by feature: the test, the way back, and the example.
+fn step_at(
+    seat: Seat,
+    place: Place,
+    share: &mut [u8],
+    sizes: &[u8],
+    rules: &[u16],
+    places: &[u16],
+    counts: &[u8],
+    edge: &[u8],
+) -> Seat
+    requires { ⌜ StepNeeds (catalogueOf (now sizes) (now rules)) seat
+        (now share) (now places) (now counts) (now edge) ⌝ }
+    requires { ⌜ seat .state ≡ AtWork place ⌝ }
+    ensures { λ r. ⌜ clinicOf r (now (share .exit))
+        ≡ stepAt (catalogueOf (now (sizes .entry)) (now (rules .entry))) place (clinicOf seat (now (share .entry))) ⌝ }
+{
+    let choices = seat.choices;
+    let masks = seat.masks;
+    let trial = seat.trial;
+    let mut placed = trial;
+    let j = place.depth as usize;
+    placed[j] = place.next;
+    let after = after_step(
+        place,
+        &choices,
+        &placed,
+        share,
+        sizes,
+        rules,
+        places,
+        counts,
+    );
+    let state = after.state;
+    Seat {
+        state,
+        choices,
+        masks: masks_after(masks, place.feature, place.option, after.found),
+        trial: trial_after(trial, edge, place.depth, place.next, after.depth),
+    }
+}
+
+// Rule 1, then the others; an example is written where a build is found.
+fn after_step(
+    place: Place,
+    choices: &[u8],
+    placed: &[u8],
+    share: &mut [u8],
+    sizes: &[u8],
+    rules: &[u16],
+    places: &[u16],
+    counts: &[u8],
+) -> After
+    requires { ⌜ TryNeeds (catalogueOf (now sizes) (now rules)) place
+        (now choices) (now placed) (now places) (now counts) ⌝ }
+    requires { ⌜ length (now share) ≡ 4096 ⌝ }
+    ensures { λ r. ⌜ r .depth ≤ place .depth + 1 ⌝ }
+    ensures { λ r. ⌜ ComesTo (catalogueOf (now (sizes .entry)) (now (rules .entry))) place
+        (now (choices .entry)) (now (placed .entry)) (now (share .entry)) r (now (share .exit)) ⌝ }
+{
+    let feature = place.feature;
+    let option = place.option;
+    if chosen_otherwise(choices, feature, option) {
+        return pair_ended(sizes, choices, feature, option, false);
+    }
+    let way = try_next(place, choices, placed, sizes, rules, places, counts);
+    match way {
+        Way::GoOn { depth, next } => {
+            let state = State::AtWork(Place {
+                feature,
+                option,
+                depth,
+                next,
+            });
+            After {
+                state,
+                depth,
+                found: false,
+            }
+        }
+        Way::Build => {
+            let i = feature as usize;
+            let a = option as usize;
+            write_example(share, i * 256 + a * 16, placed);
+            pair_ended(sizes, choices, feature, option, true)
+        }
+        Way::Exhausted => pair_ended(sizes, choices, feature, option, false),
+    }
+}
+
+// Whether a feature has a choice other than an option.
+fn chosen_otherwise(choices: &[u8], feature: u8, option: u8) -> bool
+    requires { ⌜ feature < length (now choices) ⌝ }
+    ensures { λ r. ⌜ r ≡ chosenOtherwise (now (choices .entry)) feature option ⌝ }
+{
+    let i = feature as usize;
+    let choice = choices[i];
+    if choice == 255 {
+        return false;
+    }
+    choice != option
+}
+
+// Rules 2 to 5: what is placed, the option to be tried at the depth with it, is tested against each rule whose
+// highest-numbered feature is the depth.
+fn try_next(
+    place: Place,
+    choices: &[u8],
+    placed: &[u8],
+    sizes: &[u8],
+    rules: &[u16],
+    places: &[u16],
+    counts: &[u8],
+) -> Way
+    requires { ⌜ TryNeeds (catalogueOf (now sizes) (now rules)) place
+        (now choices) (now placed) (now places) (now counts) ⌝ }
+    ensures { λ r. ⌜ depthIn r ≤ place .depth + 1 ⌝ }
+    ensures { λ r. ⌜ triedOf r (now (placed .entry))
+        ≡ tried (catalogueOf (now (sizes .entry)) (now (rules .entry))) (now (choices .entry)) (place .feature)
+        (place .option) (place .depth) (place .next) (keptBefore (place .depth) (now (placed .entry))) ⌝ }
+{
+    let depth = place.depth;
+    let option = place.option;
+    let i = place.feature as usize;
+    let j = depth as usize;
+    let from = j * 64;
+    let to = from + byte(counts[j]);
+    if !catalogue::passes(rules, j, &places[from..to], placed) {
+        return given_up(sizes, choices, i, option, depth, placed);
+    }
+    if j + 1 == sizes.len() {
+        return Way::Build;
+    }
+    let first = first_candidate(sizes, choices, i, option, j + 1);
+    Way::GoOn {
+        depth: depth + 1,
+        next: first,
+    }
+}
+
+// Rule 5: the next greater candidate, at this depth or the nearest earlier one that has any.
+fn given_up(sizes: &[u8], choices: &[u8], i: usize, option: u8, depth: u8, placed: &[u8]) -> Way
+    requires { ⌜ (length (now choices) ≡ 16) × (length (now sizes) ≤ 16) × (depth < length (now sizes)) ⌝ }
+    requires { ⌜ PlacedAt depth (now placed) ⌝ }
+    ensures { λ r. ⌜ depthIn r ≤ depth ⌝ }
+    ensures { λ r. ⌜ triedOf r (now (placed .entry))
+        ≡ givenUp (now (sizes .entry)) (now (choices .entry)) i option depth (getD (now (placed .entry)) depth 255)
+        (keptBefore depth (now (placed .entry))) ⌝ }
+{
+    let mut j = depth;
+    loop {
+        let at = j as usize;
+        match next_candidate(sizes, choices, i, option, at, placed[at]) {
+            Next::Candidate(next) => {
+                return Way::GoOn { depth: j, next };
+            }
+            Next::Nothing => {}
+        }
+        if j == 0 {
+            return Way::Exhausted;
+        }
+        j -= 1;
+    }
+}
+
+// The masks, made whole: with the bit of an option for which a build was found.
+fn masks_after(masks: [u16; 16], feature: u8, option: u8, found: bool) -> [u16; 16]
+    requires { ⌜ (feature < 16) × (option < 16) ⌝ }
+    ensures { λ r. ⌜ r ≡ masksWith found feature option masks ⌝ }
+{
+    if !found {
+        return masks;
+    }
+    let i = feature as usize;
+    let bit = 1u16 << option;
+    let mut with = [0u16; 16];
+    let mut f = 0usize;
+    while f < 16 {
+        let mask = masks[f];
+        with[f] = pick(f == i, mask | bit, mask);
+        f += 1;
+    }
+    with
+}
+
+fn pick(there: bool, yes: u16, no: u16) -> u16
+    ensures { λ r. ⌜ r ≡ cond there yes no ⌝ }
+{
+    if there { yes } else { no }
+}
+
+// The trial, made whole: with `next` at the old depth, and 255 from the new one on. The edge is 255 before a depth, so
+// that sixteen entries are made at once.
+fn trial_after(trial: [u8; 16], edge: &[u8], depth: u8, next: u8, kept: u8) -> [u8; 16]
+    requires { ⌜ (depth < 16) × (kept ≤ depth + 1) × (now edge ≡ edgeBytes) ⌝ }
+    requires { ⌜ (getD trial depth 255 ≡ 255) × ((f : ℕ) → getD trial f 255 < 256) ⌝ } // the entries of a [u8; 16]
+    ensures { λ r. ⌜ r ≡ keptBefore kept (set trial depth next) ⌝ }
+{
+    let old = 16 - depth as usize;
+    let new = 16 - kept as usize;
+    let mut after = [255u8; 16];
+    let mut f = 0usize;
+    while f < 16 {
+        after[f] = (trial[f] & (edge[old + f] | next)) | (255 - edge[new + f]);
+        f += 1;
+    }
+    after
+}
+
+// Sixteen bytes of 255, then sixteen of 0: read from 16 − d on, 255 before depth d. Made once where turns begin, and lent
+// to every step.
+pub fn edge() -> [u8; 32]
+    ensures { λ r. ⌜ r ≡ edgeBytes ⌝ }
+{
+    let mut bytes = [0u8; 32];
+    let mut i = 0usize;
+    while i < 16 {
+        bytes[i] = 255;
+        i += 1;
+    }
+    bytes
+}
+
+// A pair ends, and the next starts in the same step; after the last the seat is ready.
+fn pair_ended(sizes: &[u8], choices: &[u8], feature: u8, option: u8, found: bool) -> After
+    requires { ⌜ (length (now sizes) ≤ 16) × (feature < length (now sizes)) × (option < 16) ⌝ }
+    requires { ⌜ (length (now choices) ≡ 16) × (1 ≤ getD (now sizes) 0 0) ⌝ }
+    ensures { λ r. ⌜ r ≡ record {
+      state = afterPair (now (sizes .entry)) (now (choices .entry)) feature option;
+      depth = 0;
+      found = found;
+    } ⌝ }
+{
+    let state = after_pair(sizes, choices, feature, option);
+    After {
+        state,
+        depth: 0,
+        found,
+    }
+}
+
+fn after_pair(sizes: &[u8], choices: &[u8], feature: u8, option: u8) -> State
+    requires { ⌜ (length (now sizes) ≤ 16) × (feature < length (now sizes)) × (option < 16) ⌝ }
+    requires { ⌜ (length (now choices) ≡ 16) × (1 ≤ getD (now sizes) 0 0) ⌝ }
+    ensures { λ r. ⌜ r ≡ afterPair (now (sizes .entry)) (now (choices .entry)) feature option ⌝ }
+{
+    let i = feature as usize;
+    let next = option + 1;
+    if next < sizes[i] {
+        return started(sizes, choices, feature, next);
+    }
+    if i + 1 < sizes.len() {
+        return started(sizes, choices, feature + 1, 0);
+    }
+    State::Ready
+}
+
+fn byte(x: u8) -> usize
+    ensures { λ r. ⌜ (r ≡ x) × (r < 256) ⌝ }
+{
+    x as usize
+}
