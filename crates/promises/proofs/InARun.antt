@@ -18,7 +18,7 @@ use Rattle.search.specs.Bits.{hasBit}
 use Rattle.search.specs.Clinic.{Clinic, nothing16, noneLeft}
 use Rattle.search.specs.Step.{steps, posted}
 use Rattle.search.specs.Count.{jobSteps}
-use Rattle.search.proofs.Fitting.{ChoicesFit}
+use Rattle.search.proofs.SearchPremises.{ChoicesFit}
 use Rattle.search.proofs.PairSteps.{same-again}
 use Rattle.search.proofs.StepWrites.{Blank, Shows, shows-on, blank-or-shows}
 use Rattle.search.proofs.ReadyJob as ready-job

@@ -12,7 +12,7 @@ use borrow.Author.Tests.{eqb-true, eqb-false}
 use Rattle.builds.specs.Rule.{optionAt}
 use Rattle.builds.specs.Catalogue.{Catalogue}
 use Rattle.builds.specs.Build.{IsBuild}
-use Rattle.search.proofs.Fitting.{ChoicesFit}
+use Rattle.search.proofs.SearchPremises.{ChoicesFit}
 
 pub data Kept (catalogue : Catalogue) (choices : List ℕ) : Type 0 where
   no-choice : ((f : ℕ) → getD choices f 255 ≡ 255) → Kept catalogue choices

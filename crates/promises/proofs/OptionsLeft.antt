@@ -18,7 +18,7 @@ use Rattle.search.specs.declared.State.the-variants.{Ready}
 use Rattle.search.specs.Bits.{hasBit}
 use Rattle.search.specs.Look.{isLeft}
 use Rattle.search.specs.Clinic.{Clinic, exampleIn}
-use Rattle.search.proofs.Fitting.{ChoicesFit}
+use Rattle.search.proofs.SearchPremises.{ChoicesFit}
 use Rattle.search.proofs.PlaceBounds.{few-features, size-within}
 use Rattle.search.proofs.ReadyJob as ready-job
 use Rattle.runs.specs.Room.{Room, shareAt, clinicAt}

@@ -8,7 +8,7 @@ use Rattle.search.specs.Bits.{withBit, bitsBelow}
 use Rattle.search.specs.Clinic.{withExample, put}
 use Rattle.search.specs.Candidates.{candidates, firstCandidate, firstAbove}
 use Rattle.search.specs.Step.{givenUp, tried, afterPair, pairEnded, afterTried, stepAt, stepFrom, step, steps, posted}
-use Rattle.search.specs.Count.{searchEach, searchFrom, pairSearch, pairsFrom, pairCounts, sum, jobSteps}
+use Rattle.search.specs.Count.{searchEach, searchFrom, searchFor, pairSearch, pairsFrom, pairCounts, sum, jobSteps}
 use Rattle.search.specs.Fit.{everyBelow, seatFits}
 use Rattle.runs.specs.Room.{shareAt, withClinic}
 use Rattle.runs.specs.Fit.{deskFits}
@@ -19,5 +19,5 @@ use Rattle.runs.specs.Run.{afterCalls, allTurnsAsked, stepsFirst, side, 
 use Rattle.search.specs.Trolley.{trolley, allUnequal, single}
 
 unfoldable pub computing : Unit {0}
-unfolding optionsAt matches someRow satisfies satisfiesAll highest rulesAt passes rowsRead ruleRead rulesRead rulesOf countFrom inFront instantiations keepsChoices keep builds sizesFault member featuresFault rowFits rowsFault ruleFault rulesFault faultOf withBit bitsBelow withExample put candidates firstCandidate firstAbove givenUp tried afterPair pairEnded afterTried stepAt stepFrom step steps posted searchEach searchFrom pairSearch pairsFrom pairCounts sum jobSteps everyBelow seatFits shareAt withClinic deskFits atWorkFrom turn afterTurns turnsMade stepsGiven openRefusal refusal done perform opening afterCalls allTurnsAsked stepsFirst side since trolley allUnequal single
+unfolding optionsAt matches someRow satisfies satisfiesAll highest rulesAt passes rowsRead ruleRead rulesRead rulesOf countFrom inFront instantiations keepsChoices keep builds sizesFault member featuresFault rowFits rowsFault ruleFault rulesFault faultOf withBit bitsBelow withExample put candidates firstCandidate firstAbove givenUp tried afterPair pairEnded afterTried stepAt stepFrom step steps posted searchEach searchFrom searchFor pairSearch pairsFrom pairCounts sum jobSteps everyBelow seatFits shareAt withClinic deskFits atWorkFrom turn afterTurns turnsMade stepsGiven openRefusal refusal done perform opening afterCalls allTurnsAsked stepsFirst side since trolley allUnequal single
 computing = tt

@@ -1,9 +1,9 @@
--- The candidates for a pair are rising; and unless rule 1 ends the pair, they are at each feature just the options that
--- keep the choice in force there, and that are a at feature i.
+-- The candidates for a pair (i, a) are rising; and they are at each feature just the options of it that are a, if it is i,
+-- and that keep the choice in force there, if it is another.
 use Prim.Native.Nat.{ℕ, _<_}
-use mathlib.Core.Path.{_≡_, refl, sym}
-use mathlib.Core.Logic.{_⊎_, inl, inr, ⊎-elim, _↔_}
-use mathlib.Core.Bool.{Bool, true, false, cond, not, _&&_, true≢false, false≢true}
+use mathlib.Core.Path.{_≡_, refl, sym, _∙_}
+use mathlib.Core.Logic.{_⊎_, ⊎-elim, _↔_}
+use mathlib.Core.Bool.{Bool, true, false, cond}
 use mathlib.Core.List.{List, [], _∷_, List·Memᴰ, List·Memᴰ·head, List·Memᴰ·eq-of-singleton}
 use lib.ListN.{getD}
 use lib.Dec.{eqb}
@@ -11,31 +11,8 @@ use borrow.Author.Tests.{eqb-true, eqb-false}
 use Rattle.builds.specs.Every.{Every, EveryTwo}
 use Rattle.builds.specs.Builds.{optionsOf}
 use Rattle.builds.proofs.Options.{Rising, options-rising, options-below}
-use Rattle.search.specs.Candidates.{candidates, chosenOtherwise}
-
--- ---- rule 1
-
-pub chosen-otherwise : (choices : List ℕ) (i a : ℕ) → chosenOtherwise choices i a ≡ true
-    → (getD choices i 255 ≡ 255 → ⊥) × (getD choices i 255 ≡ a → ⊥)
-chosen-otherwise choices i a h = go (eqb (getD choices i 255) 255) (eqb (getD choices i 255) a) refl refl h
-  where
-    go : (p q : Bool) → eqb (getD choices i 255) 255 ≡ p → eqb (getD choices i 255) a ≡ q → not p && not q ≡ true
-        → (getD choices i 255 ≡ 255 → ⊥) × (getD choices i 255 ≡ a → ⊥)
-    go true q ep eq t = absurd (false≢true t)
-    go false true ep eq t = absurd (false≢true t)
-    go false false ep eq t = (eqb-false _ _ ep, eqb-false _ _ eq)
-
-pub not-otherwise : (choices : List ℕ) (i a : ℕ) → chosenOtherwise choices i a ≡ false
-    → (getD choices i 255 ≡ 255) ⊎ (getD choices i 255 ≡ a)
-not-otherwise choices i a h = go (eqb (getD choices i 255) 255) (eqb (getD choices i 255) a) refl refl h
-  where
-    go : (p q : Bool) → eqb (getD choices i 255) 255 ≡ p → eqb (getD choices i 255) a ≡ q → not p && not q ≡ false
-        → (getD choices i 255 ≡ 255) ⊎ (getD choices i 255 ≡ a)
-    go true q ep eq t = inl (eqb-true _ _ ep)
-    go false true ep eq t = inr (eqb-true _ _ eq)
-    go false false ep eq t = absurd (true≢false t)
-
--- ---- the other rules
+use Rattle.search.specs.Candidates.{candidates, setAside}
+use Rattle.search.proofs.SetAside.{none-there, others-stay}
 
 one-rising : (o : ℕ) → Rising (o ∷ [])
 one-rising o = EveryTwo.also Every.none EveryTwo.none
@@ -50,7 +27,7 @@ candidates-rising sizes choices i a j = go (eqb j i) (eqb (getD choices j 255) 2
     go false true = options-rising (getD sizes j 0)
     go false false = one-rising (getD choices j 255)
 
--- an option that a build with a at i may have at feature f
+-- an option that a build with a at i that keeps the choices may have at feature f
 pub record Allowed (sizes choices : List ℕ) (i a f o : ℕ) : Type 0 where
   pub within : o < getD sizes f 0
   pub keeps : (getD choices f 255 ≡ 255 → ⊥) → o ≡ getD choices f 255
@@ -60,40 +37,42 @@ module _
     (sizes choices : List ℕ)
     (i a : ℕ)
     (option : a < getD sizes i 0)
-    (same : (getD choices i 255 ≡ 255) ⊎ (getD choices i 255 ≡ a))
     (f o : ℕ)
     (fits : (getD choices f 255 ≡ 255) ⊎ (getD choices f 255 < getD sizes f 0))
   where
-    candidate-allowed : List·Memᴰ o (candidates sizes choices i a f) → Allowed sizes choices i a f o
+    stays : (f ≡ i → ⊥) → getD (setAside choices i) f 255 ≡ getD choices f 255
+    stays = others-stay choices i f
+
+    candidate-allowed : List·Memᴰ o (candidates sizes choices i a f) → Allowed sizes (setAside choices i) i a f o
     unfolding candidates
     candidate-allowed m = go (eqb f i) (eqb (getD choices f 255) 255) refl refl m
       where
         go : (at unchosen : Bool) → eqb f i ≡ at → eqb (getD choices f 255) 255 ≡ unchosen
             → List·Memᴰ o (cond at (a ∷ []) (cond unchosen (optionsOf (getD sizes f 0)) (getD choices f 255 ∷ [])))
-            → Allowed sizes choices i a f o
+            → Allowed sizes (setAside choices i) i a f o
         go true unchosen ea eu m =
             let e = List·Memᴰ·eq-of-singleton m in
             let here = eqb-true f i ea in
             record {
               within = rw (e, here) option;
-              keeps = rw (e, here) (λ chosen. ⊎-elim (λ free. absurd (chosen free)) (λ k. sym k) same);
+              keeps = rw here (λ chosen. absurd (chosen (none-there choices i)));
               asked = λ k. e;
             }
         go false true ea eu m =
             record {
               within = options-below (getD sizes f 0) o .0 m;
-              keeps = λ chosen. absurd (chosen (eqb-true _ _ eu));
+              keeps = λ chosen. absurd (chosen (stays (eqb-false f i ea) ∙ eqb-true _ _ eu));
               asked = λ k. absurd (eqb-false f i ea k);
             }
         go false false ea eu m =
             let e = List·Memᴰ·eq-of-singleton m in
             record {
               within = rw e (⊎-elim (λ free. absurd (eqb-false _ _ eu free)) (λ h. h) fits);
-              keeps = λ chosen. e;
+              keeps = λ chosen. e ∙ sym (stays (eqb-false f i ea));
               asked = λ k. absurd (eqb-false f i ea k);
             }
 
-    allowed-candidate : Allowed sizes choices i a f o → List·Memᴰ o (candidates sizes choices i a f)
+    allowed-candidate : Allowed sizes (setAside choices i) i a f o → List·Memᴰ o (candidates sizes choices i a f)
     unfolding candidates
     allowed-candidate l = go (eqb f i) (eqb (getD choices f 255) 255) refl refl
       where
@@ -101,7 +80,9 @@ module _
             → List·Memᴰ o (cond at (a ∷ []) (cond unchosen (optionsOf (getD sizes f 0)) (getD choices f 255 ∷ [])))
         go true unchosen ea eu = List·Memᴰ·head (l .asked (eqb-true f i ea))
         go false true ea eu = options-below (getD sizes f 0) o .1 (l .within)
-        go false false ea eu = List·Memᴰ·head (l .keeps (eqb-false _ _ eu))
+        go false false ea eu =
+            let same = stays (eqb-false f i ea) in
+            List·Memᴰ·head (l .keeps (λ free. eqb-false _ _ eu (sym same ∙ free)) ∙ same)
 
-    pub candidates-allowed : List·Memᴰ o (candidates sizes choices i a f) ↔ Allowed sizes choices i a f o
+    pub candidates-allowed : List·Memᴰ o (candidates sizes choices i a f) ↔ Allowed sizes (setAside choices i) i a f o
     candidates-allowed = (candidate-allowed, allowed-candidate)

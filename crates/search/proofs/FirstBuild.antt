@@ -1,6 +1,7 @@
--- What the written search for one pair finds: the first build in dictionary order that contains option a of feature i and
--- keeps every choice, padded; and nothing only where there is no such build. For it finds the first completion of the
--- empty trial; and where rule 1 ends the pair, a build with a at i does not keep the choice there.
+-- What the written search for one pair (i, a) finds: the first build in dictionary order with a at i under the choices
+-- with feature i's own set aside, padded; and nothing only where there is no such build. For it finds the first completion
+-- of the empty trial. Rule 1 is a case above it: where it ends the pair no build with a at i keeps the choices, and
+-- elsewhere those builds are the same ones, and so is the first.
 use Prim.Native.Nat.{ℕ, _≤_}
 use mathlib.Core.Path.{_≡_, refl, sym, ap, _∙_}
 use mathlib.Core.Logic.{_↔_}
@@ -18,12 +19,13 @@ use Rattle.builds.proofs.Padded.{padded-sets}
 use Rattle.builds.proofs.Dictionary.{FirstIs, one-answer}
 use Rattle.builds.proofs.Builds.{first-listed}
 use Rattle.search.specs.Clinic.{nothing16}
-use Rattle.search.specs.Candidates.{candidates, chosenOtherwise}
-use Rattle.search.specs.Count.{oneStep, nothingTried, searchFrom, pairSearch}
-use Rattle.search.proofs.Fitting.{Fitting}
+use Rattle.search.specs.Candidates.{candidates, setAside, chosenOtherwise}
+use Rattle.search.specs.Count.{oneStep, nothingTried, searchFor, pairSearch}
+use Rattle.search.proofs.SearchPremises.{SearchPremises}
+use Rattle.search.proofs.SetAside.{none-otherwise, same-builds, same-first}
+use Rattle.search.proofs.Allowed.{candidates-rising}
 use Rattle.search.proofs.FirstCompletion.{Finds, search-finds}
-use Rattle.search.proofs.Completions.{Completion, completions-are-builds}
-use Rattle.search.proofs.Allowed.{chosen-otherwise, candidates-rising}
+use Rattle.search.proofs.CompletionsAreBuilds.{Completion, completions-are-builds}
 
 -- what is found is the answer to the question which build is the first, padded
 pub record Answers (catalogue : Catalogue) (choices : List ℕ) (i a : ℕ) (found : Option (List ℕ)) : Type 0 where
@@ -31,73 +33,112 @@ pub record Answers (catalogue : Catalogue) (choices : List ℕ) (i a : ℕ) (fou
   pub is-right : FirstIs catalogue choices i a answer
   pub is-padded : found ≡ Option·map padded answer
 
-module _ (catalogue : Catalogue) (choices : List ℕ) (i a : ℕ) (fitting : Fitting catalogue choices i a) where
-  ended : chosenOtherwise choices i a ≡ true → (build : List ℕ) → BuildWith catalogue choices i a build → ⊥
-  ended e build b =
-      let other = chosen-otherwise choices i a e in
-      other .1 (sym (b .is-build .every-choice i (fitting .feature) (other .0)) ∙ b .contains)
+-- the same, said of what is found
+module _
+    {catalogue : Catalogue}
+    {choices : List ℕ}
+    {i a : ℕ}
+    {found : Option (List ℕ)}
+    (answers : Answers catalogue choices i a found)
+  where
+    none-has : found ≡ none → (build : List ℕ) → BuildWith catalogue choices i a build → ⊥
+    none-has e = go (answers .is-right) (sym (answers .is-padded) ∙ e)
+      where
+        go : {answer : Option (List ℕ)} → FirstIs catalogue choices i a answer → Option·map padded answer ≡ none
+            → (build : List ℕ) → BuildWith catalogue choices i a build → ⊥
+        go (FirstIs.nothing n) e = n
+        go (FirstIs.first {build = b} f) e = absurd (Option·some-ne-none (padded b) e)
 
-  finds-answer : chosenOtherwise choices i a ≡ false → {found : Option (List ℕ)}
-      → Finds (Completion catalogue choices i a) nothing16 0 found → Answers catalogue choices i a found
-  finds-answer free (Finds.nothing n) =
-      let same = completions-are-builds catalogue choices i a fitting free in
+    none-found : ((build : List ℕ) → BuildWith catalogue choices i a build → ⊥) → found ≡ none
+    none-found no-build = go (answers .is-right) (answers .is-padded)
+      where
+        go : {answer : Option (List ℕ)} → FirstIs catalogue choices i a answer → found ≡ Option·map padded answer → found ≡ none
+        go (FirstIs.nothing n) e = e
+        go (FirstIs.first {build = b} f) e = absurd (no-build b (f .one-of-them))
+
+    first-found : (trial : List ℕ) → found ≡ some trial
+        → (build : List ℕ) × (trial ≡ padded build) × FirstWith catalogue choices i a build
+    first-found trial e = go (answers .is-right) (sym (answers .is-padded) ∙ e)
+      where
+        go : {answer : Option (List ℕ)} → FirstIs catalogue choices i a answer → Option·map padded answer ≡ some trial
+            → (build : List ℕ) × (trial ≡ padded build) × FirstWith catalogue choices i a build
+        go (FirstIs.nothing n) e = absurd (Option·none-ne-some trial e)
+        go (FirstIs.first {build = b} f) e = (b, sym (Option·some-injective (padded b) trial e), f)
+
+    -- with the list of builds
+    listed-found : found ≡ Option·map padded (head? (buildsWith (catalogue .sizes) (rulesOf catalogue) choices i a))
+    listed-found = answers .is-padded ∙ ap (Option·map padded) (one-answer (answers .is-right) (first-listed catalogue choices i a))
+
+module _ (catalogue : Catalogue) (choices : List ℕ) (i a : ℕ) (premises : SearchPremises catalogue choices i a) where
+  -- ---- the search itself, under the choices with feature i's own set aside
+
+  finds-answer : {found : Option (List ℕ)} → Finds (Completion catalogue choices i a) nothing16 0 found
+      → Answers catalogue (setAside choices i) i a found
+  finds-answer (Finds.nothing n) =
+      let same = completions-are-builds catalogue choices i a premises in
       record { answer = none; is-right = FirstIs.nothing (λ build b. n build (same build .1 b)); is-padded = refl }
-  finds-answer free (Finds.first build c least) =
-      let same = completions-are-builds catalogue choices i a fitting free in
+  finds-answer (Finds.first build c least) =
+      let same = completions-are-builds catalogue choices i a premises in
       let b = same build .0 c in
-      let short : length build ≤ 16 = omega (arith, b .is-build .complete, fault-zero catalogue (fitting .faultless) .few-features) in
+      let short : length build ≤ 16 = omega (arith, b .is-build .complete, fault-zero catalogue (premises .faultless) .few-features) in
       record {
         answer = some build;
         is-right = FirstIs.first (record { one-of-them = b; none-before = λ other o. least other (same other .1 o) });
         is-padded = ap {B = Option (List ℕ)} some (padded-sets build short);
       }
 
+  pub search-answers : Answers catalogue (setAside choices i) i a (searchFor catalogue choices i a .found)
+  unfolding searchFor
+  search-answers =
+      finds-answer
+      (search-finds (passes (rulesOf catalogue)) (candidates (catalogue .sizes) choices i a)
+      (candidates-rising (catalogue .sizes) choices i a) (length (catalogue .sizes)) 0 nothing16)
+
+  pub finds-nothing-aside : (searchFor catalogue choices i a .found ≡ none)
+      ↔ ((build : List ℕ) → BuildWith catalogue (setAside choices i) i a build → ⊥)
+  finds-nothing-aside = (none-has search-answers, none-found search-answers)
+
+  pub finds-first-aside : (trial : List ℕ) → searchFor catalogue choices i a .found ≡ some trial
+      → (build : List ℕ) × (trial ≡ padded build) × FirstWith catalogue (setAside choices i) i a build
+  finds-first-aside = first-found search-answers
+
+  pub finds-listed-aside : searchFor catalogue choices i a .found
+      ≡ Option·map padded (head? (buildsWith (catalogue .sizes) (rulesOf catalogue) (setAside choices i) i a))
+  finds-listed-aside = listed-found search-answers
+
+  -- ---- with rule 1 above it, under the choices themselves
+
+  free-answers : chosenOtherwise choices i a ≡ false → {found : Option (List ℕ)}
+      → Answers catalogue (setAside choices i) i a found → Answers catalogue choices i a found
+  free-answers free answers = record { answer = answers .answer; is-right = go (answers .is-right); is-padded = answers .is-padded }
+    where
+      go : {answer : Option (List ℕ)} → FirstIs catalogue (setAside choices i) i a answer → FirstIs catalogue choices i a answer
+      go (FirstIs.nothing n) = FirstIs.nothing (λ build b. n build (same-builds catalogue choices i a free build .0 b))
+      go (FirstIs.first {build = build} f) = FirstIs.first (same-first catalogue choices i a free build .1 f)
+
   pub pair-answers : Answers catalogue choices i a (pairSearch catalogue choices i a .found)
   unfolding pairSearch
   pair-answers = go (chosenOtherwise choices i a) refl
     where
       go : (otherwise : Bool) → chosenOtherwise choices i a ≡ otherwise
-          → Answers catalogue choices i a
-          (cond otherwise (oneStep nothingTried)
-          (searchFrom (passes (rulesOf catalogue)) (candidates (catalogue .sizes) choices i a) (length (catalogue .sizes)) 0 nothing16) .found)
-      go true e = record { answer = none; is-right = FirstIs.nothing (ended e); is-padded = refl }
-      go false e =
-          finds-answer e
-          (search-finds (passes (rulesOf catalogue)) (candidates (catalogue .sizes) choices i a)
-          (candidates-rising (catalogue .sizes) choices i a) (length (catalogue .sizes)) 0 nothing16)
-
-  -- ---- the same, said of what is found
+          → Answers catalogue choices i a (cond otherwise (oneStep nothingTried) (searchFor catalogue choices i a) .found)
+      go true e =
+          let no-build = none-otherwise catalogue choices i a (premises .feature) e in
+          record { answer = none; is-right = FirstIs.nothing no-build; is-padded = refl }
+      go false e = free-answers e search-answers
 
   pub finds-nothing : pairSearch catalogue choices i a .found ≡ none
       → (build : List ℕ) → BuildWith catalogue choices i a build → ⊥
-  finds-nothing e = go (pair-answers .is-right) (sym (pair-answers .is-padded) ∙ e)
-    where
-      go : {answer : Option (List ℕ)} → FirstIs catalogue choices i a answer → Option·map padded answer ≡ none
-          → (build : List ℕ) → BuildWith catalogue choices i a build → ⊥
-      go (FirstIs.nothing n) e = n
-      go (FirstIs.first {build = b} f) e = absurd (Option·some-ne-none (padded b) e)
+  finds-nothing = none-has pair-answers
 
   pub finds-nothing-exactly : (pairSearch catalogue choices i a .found ≡ none)
       ↔ ((build : List ℕ) → BuildWith catalogue choices i a build → ⊥)
-  finds-nothing-exactly = (finds-nothing, λ none-has. go none-has (pair-answers .is-right) (pair-answers .is-padded))
-    where
-      go : ((build : List ℕ) → BuildWith catalogue choices i a build → ⊥) → {answer : Option (List ℕ)}
-          → FirstIs catalogue choices i a answer → pairSearch catalogue choices i a .found ≡ Option·map padded answer
-          → pairSearch catalogue choices i a .found ≡ none
-      go none-has (FirstIs.nothing n) e = e
-      go none-has (FirstIs.first {build = b} f) e = absurd (none-has b (f .one-of-them))
+  finds-nothing-exactly = (finds-nothing, none-found pair-answers)
 
   pub finds-first : (trial : List ℕ) → pairSearch catalogue choices i a .found ≡ some trial
       → (build : List ℕ) × (trial ≡ padded build) × FirstWith catalogue choices i a build
-  finds-first trial e = go (pair-answers .is-right) (sym (pair-answers .is-padded) ∙ e)
-    where
-      go : {answer : Option (List ℕ)} → FirstIs catalogue choices i a answer → Option·map padded answer ≡ some trial
-          → (build : List ℕ) × (trial ≡ padded build) × FirstWith catalogue choices i a build
-      go (FirstIs.nothing n) e = absurd (Option·none-ne-some trial e)
-      go (FirstIs.first {build = b} f) e = (b, sym (Option·some-injective (padded b) trial e), f)
+  finds-first = first-found pair-answers
 
-  -- and with the list of builds
   pub finds-listed : pairSearch catalogue choices i a .found
       ≡ Option·map padded (head? (buildsWith (catalogue .sizes) (rulesOf catalogue) choices i a))
-  finds-listed =
-      pair-answers .is-padded ∙ ap (Option·map padded) (one-answer (pair-answers .is-right) (first-listed catalogue choices i a))
+  finds-listed = listed-found pair-answers

@@ -1,6 +1,7 @@
 -- The written search, from its top theorems down.
 --   ReadyJob: what a clinic sees when its job has ended
 --   FirstBuild: one pair's search finds the first build in dictionary order that has the option, or there is none
+--   CompletionsAreBuilds: what it searches are the builds with the option, the feature's own choice set aside
 --   JobSteps: a job is at its end after just K steps, and at work before
 --   JobResult: what masks and share hold then
 pub mod Bits
@@ -32,11 +33,12 @@ pub mod JobSteps
 pub mod PairView
 pub mod WorkedPairs
 pub mod JobResult
-pub mod Fitting
+pub mod SearchPremises
+pub mod SetAside
 pub mod Allowed
 pub mod FirstCompletion
-pub mod Completed
-pub mod Completions
+pub mod CompletionsByFeature
+pub mod CompletionsAreBuilds
 pub mod FirstBuild
 pub mod ReadyOnce
 pub mod ReadyJob

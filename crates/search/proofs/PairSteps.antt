@@ -16,7 +16,7 @@ use Rattle.search.specs.declared.State.{State}
 use Rattle.search.specs.Clinic.{Clinic, nothing16, moved, withExample}
 use Rattle.search.specs.Candidates.{candidates, firstCandidate, chosenOtherwise}
 use Rattle.search.specs.Step.{started, pairEnded, afterTried, stepAt, stepFrom, step, steps}
-use Rattle.search.specs.Count.{Search, nothingTried, oneStep, orLater, searchEach, searchFrom, pairSearch}
+use Rattle.search.specs.Count.{Search, nothingTried, oneStep, orLater, searchEach, searchFrom, searchFor, pairSearch}
 use Rattle.search.proofs.Takes.{Takes, WorkingOn, takes-steps, takes-before, takes-to, takes-from}
 use Rattle.search.proofs.InTurn.{firstOf, candidates-first}
 use Rattle.search.proofs.GivenUp.{PlacedBelow, depthExhausted}
@@ -80,8 +80,8 @@ module _ (catalogue : Catalogue) (fault : faultOf catalogue ≡ 0) (i a : ℕ) w
         Takes.first (record { place = here; at-work = begins .state-is; feature = refl; option = refl })
         (takes-from over Takes.none)
 
-    searches : chosenOtherwise choices i a ≡ false → TakesTo (searchWith (length sizes))
-    unfolding afterTried
+    searches : chosenOtherwise choices i a ≡ false → TakesTo (searchFor catalogue choices i a)
+    unfolding searchFor afterTried
     searches h = go (length sizes) refl
       where
         go : (n : ℕ) → length sizes ≡ n → TakesTo (searchWith n)
@@ -96,7 +96,7 @@ module _ (catalogue : Catalogue) (fault : faultOf catalogue ≡ 0) (i a : ℕ) w
     unfolding pairSearch
     pair-takes-own = go (chosenOtherwise choices i a) refl
       where
-        go : (t : Bool) → chosenOtherwise choices i a ≡ t → TakesTo (cond t (oneStep nothingTried) (searchWith (length sizes)))
+        go : (t : Bool) → chosenOtherwise choices i a ≡ t → TakesTo (cond t (oneStep nothingTried) (searchFor catalogue choices i a))
         go true h = ends-at-once h
         go false h = searches h
 
@@ -119,7 +119,7 @@ each-counts test deeper j trial (w ∷ vs) v e = go (oneStep here) (omega arith)
 
 module _ (catalogue : Catalogue) (fault : faultOf catalogue ≡ 0) (choices : List ℕ) (i a : ℕ) where
   pub pair-counts : 1 ≤ pairSearch catalogue choices i a .count
-  unfolding pairSearch searchFrom
+  unfolding pairSearch searchFor searchFrom
   pair-counts = go (chosenOtherwise choices i a) (length (catalogue .sizes)) some-feature
     where
       some-feature : 1 ≤ length (catalogue .sizes)

@@ -18,7 +18,7 @@ use Rattle.search.specs.Bits.{hasBit}
 use Rattle.search.specs.Clinic.{Clinic, nothing16, noneLeft, emptyShare, exampleIn}
 use Rattle.search.specs.Step.{steps, posted, ReadyAfter}
 use Rattle.search.specs.Count.{pairSearch, jobSteps}
-use Rattle.search.proofs.Fitting.{ChoicesFit, Fitting}
+use Rattle.search.proofs.SearchPremises.{ChoicesFit, SearchPremises}
 use Rattle.search.proofs.FirstBuild.{finds-nothing, finds-first}
 use Rattle.search.proofs.JobSteps.{job-steps, job-at-work}
 use Rattle.search.proofs.JobResult.{option-of, job-masks, job-example-found, job-example-none, job-nothing}
@@ -48,8 +48,8 @@ module _ (catalogue : Catalogue) (fault : faultOf catalogue ≡ 0) (choices : Li
   bit-found i a = rw (job-steps catalogue fault choices) (job-masks catalogue fault choices i a)
 
 module _ (catalogue : Catalogue) (fault : faultOf catalogue ≡ 0) (choices : List ℕ) (fit : ChoicesFit catalogue choices) where
-  fitting : (i a : ℕ) → a < getD (catalogue .sizes) i 0 → Fitting catalogue choices i a
-  fitting i a l =
+  premises : (i a : ℕ) → a < getD (catalogue .sizes) i 0 → SearchPremises catalogue choices i a
+  premises i a l =
       record { faultless = fault; feature = option-of (catalogue .sizes) i a l; option = l; choices-fit = fit }
 
   -- a build's option is an option of its feature
@@ -64,22 +64,25 @@ module _ (catalogue : Catalogue) (fault : faultOf catalogue ≡ 0) (choices : Li
       there : hasBit (maskAt catalogue choices i) a ≡ true → (build : List ℕ) × BuildWith catalogue choices i a build
       there set =
           let found = bit-found catalogue fault choices i a .0 set in
-          let first = finds-first catalogue choices i a (fitting i a (found .0)) (found .1 .0) (found .1 .1) in
+          let first = finds-first catalogue choices i a (premises i a (found .0)) (found .1 .0) (found .1 .1) in
           (first .0, first .2 .one-of-them)
 
       back : ((build : List ℕ) × BuildWith catalogue choices i a build) → hasBit (maskAt catalogue choices i) a ≡ true
-      back h = bit-found catalogue fault choices i a .1 (option-within i a l (h .0) (h .1), go (pairSearch catalogue choices i a .found) refl)
+      back h = bit-found catalogue fault choices i a .1 (inside, go (pairSearch catalogue choices i a .found) refl)
         where
+          inside : a < getD (catalogue .sizes) i 0
+          inside = option-within i a l (h .0) (h .1)
+
           go : (found : Option (List ℕ)) → pairSearch catalogue choices i a .found ≡ found
               → (trial : List ℕ) × (pairSearch catalogue choices i a .found ≡ some trial)
-          go none e = absurd (finds-nothing catalogue choices i a (fitting i a (option-within i a l (h .0) (h .1))) e (h .0) (h .1))
+          go none e = absurd (finds-nothing catalogue choices i a (premises i a inside) e (h .0) (h .1))
           go (some trial) e = (trial, e)
 
   pub first-beside : (i a : ℕ) → hasBit (maskAt catalogue choices i) a ≡ true
       → (build : List ℕ) × FirstWith catalogue choices i a build × (exampleAt catalogue choices i a ≡ padded build)
   first-beside i a set =
       let found = bit-found catalogue fault choices i a .0 set in
-      let first = finds-first catalogue choices i a (fitting i a (found .0)) (found .1 .0) (found .1 .1) in
+      let first = finds-first catalogue choices i a (premises i a (found .0)) (found .1 .0) (found .1 .1) in
       let example : exampleAt catalogue choices i a ≡ found .1 .0
       = rw (job-steps catalogue fault choices) (job-example-found catalogue fault choices i a (found .1 .0) (found .0) (found .1 .1)) in
       (first .0, first .2, example ∙ first .1)
@@ -111,7 +114,8 @@ module _ (catalogue : Catalogue) (fault : faultOf catalogue ≡ 0) (choices : Li
     pub choice-alone : (build : List ℕ) → IsBuild catalogue choices build
         → (a : ℕ) → (hasBit (maskAt catalogue choices i) a ≡ true) ↔ (a ≡ getD choices i 255)
     choice-alone build b a =
-        (no-other a, λ e. subst (λ (o : ℕ). hasBit (maskAt catalogue choices i) o ≡ true) (b .every-choice i l chosen ∙ sym e) (build-left build b i l))
+        let shown : (o : ℕ) → Type 0 = λ o. hasBit (maskAt catalogue choices i) o ≡ true in
+        (no-other a, λ e. subst shown (b .every-choice i l chosen ∙ sym e) (build-left build b i l))
 
   pub none-left : ((build : List ℕ) → IsBuild catalogue choices build → ⊥)
       → (ended catalogue choices .seat .masks ≡ noneLeft) × (ended catalogue choices .share ≡ emptyShare)
@@ -124,7 +128,7 @@ module _ (catalogue : Catalogue) (fault : faultOf catalogue ≡ 0) (choices : Li
       go i a m none e = e
       go i a m (some trial) e =
           absurd
-          (let first = finds-first catalogue choices i a (fitting i a m) trial e in
+          (let first = finds-first catalogue choices i a (premises i a m) trial e in
           no-build (first .0) (first .2 .one-of-them .is-build))
 
   -- what is shown is the GIC closure of the catalogue under the choices

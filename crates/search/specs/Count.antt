@@ -44,11 +44,14 @@ searchFrom test candidatesAt zero j trial = record { count = 0; found = some tri
 searchFrom test candidatesAt (suc features) j trial =
     searchEach test (searchFrom test candidatesAt features (suc j)) j trial (candidatesAt j)
 
--- the search for one pair; one that rule 1 ends takes one step and finds nothing
+-- the search for one pair, from the empty trial; it reads no choice at i
+unfoldable pub searchFor : Catalogue → List ℕ → ℕ → ℕ → Search
+searchFor catalogue choices i a =
+    searchFrom (passes (rulesOf catalogue)) (candidates (catalogue .sizes) choices i a) (length (catalogue .sizes)) 0 nothing16
+
+-- what is done for one pair: one that rule 1 ends takes one step and finds nothing
 unfoldable pub pairSearch : Catalogue → List ℕ → ℕ → ℕ → Search
-pairSearch catalogue choices i a =
-    cond (chosenOtherwise choices i a) (oneStep nothingTried)
-    (searchFrom (passes (rulesOf catalogue)) (candidates (catalogue .sizes) choices i a) (length (catalogue .sizes)) 0 nothing16)
+pairSearch catalogue choices i a = cond (chosenOtherwise choices i a) (oneStep nothingTried) (searchFor catalogue choices i a)
 
 -- the pairs of a job: i rising, then a rising within i
 unfoldable pub pairsFrom : ℕ → List ℕ → List (ℕ × ℕ)

@@ -12,10 +12,10 @@ use Rattle.builds.specs.Builds.{countFrom, inFront, instantiations, keepsChoice
 use Rattle.builds.proofs.Padded.{nothing-there}
 use Rattle.builds.proofs.Dictionary.{FirstIs}
 use Rattle.builds.proofs.Builds.{first-listed}
-use Rattle.search.proofs.Fitting.{Fitting}
+use Rattle.search.proofs.SearchPremises.{SearchPremises}
 use Rattle.search.specs.Trolley.{trolley, noChoices}
 
-pub trolley-fits : Fitting trolley noChoices 1 2
+pub trolley-fits : SearchPremises trolley noChoices 1 2
 unfolding trolley sizesFault member featuresFault rowFits rowsFault ruleFault rulesFault faultOf
 trolley-fits = record { faultless = refl; feature = omega arith; option = omega arith; choices-fit = λ f l. inl (nothing-there 16 f) }
 

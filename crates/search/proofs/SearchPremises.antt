@@ -13,7 +13,7 @@ abbrev pub ChoicesFit : Catalogue → List ℕ → Type 0
 ChoicesFit catalogue choices =
     (f : ℕ) → f < length (catalogue .sizes) → (getD choices f 255 ≡ 255) ⊎ (getD choices f 255 < getD (catalogue .sizes) f 0)
 
-pub record Fitting (catalogue : Catalogue) (choices : List ℕ) (i a : ℕ) : Type 0 where
+pub record SearchPremises (catalogue : Catalogue) (choices : List ℕ) (i a : ℕ) : Type 0 where
   pub faultless : faultOf catalogue ≡ 0
   pub feature : i < length (catalogue .sizes)
   pub option : a < getD (catalogue .sizes) i 0
