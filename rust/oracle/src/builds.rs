@@ -2,7 +2,7 @@
 //! written search, but for the last function, which counts K by plain recursion.
 
 use crate::catalogue::{Catalogue, FEATURES};
-use crate::desk::{Record, EXAMPLE, NONE, SHARE};
+use crate::record::{Record, EXAMPLE, NONE, SHARE};
 
 /// Above this many instantiations brute force is left out.
 pub const SMALL_ENOUGH: u64 = 200_000;

@@ -2,8 +2,9 @@
 
 use crate::builds::{builds, shown, steps_by_pair};
 use crate::catalogue::{read, Catalogue};
-use crate::desk::{Desk, Lent, Record, State, BOARD, NONE};
+use crate::desk::{Desk, Lent, BOARD};
 use crate::expect::transcript;
+use crate::record::{Record, State, NONE};
 use crate::search::step;
 
 const TROLLEY: [u16; 24] =

@@ -2,41 +2,11 @@
 
 use crate::catalogue::{self, Catalogue};
 use crate::fit;
+use crate::record::{Record, State, EXAMPLE, NONE, SHARE};
 use crate::search;
 
-pub const NONE: u8 = 255;
 pub const SEATS: usize = 8;
 pub const BOARD: usize = 32_768;
-pub const SHARE: usize = 4_096;
-pub const EXAMPLE: usize = 16;
-
-/// "The state is closed, ready, or at work with the numbers of its place: feature i, option a,
-/// depth j and the option v to be tried next at j."
-#[derive(Clone, Copy, Debug, PartialEq, Eq)]
-pub enum State {
-    Closed,
-    Ready,
-    AtWork { i: u8, a: u8, j: u8, v: u8 },
-}
-
-#[derive(Clone, Debug, PartialEq, Eq)]
-pub struct Record {
-    pub state: State,
-    pub choices: [u8; 16],
-    pub masks: [u16; 16],
-    pub trial: [u8; 16],
-}
-
-impl Record {
-    /// "A closed seat has no choices, empty masks and a share full of 255."
-    pub fn closed() -> Record {
-        Record { state: State::Closed, choices: [NONE; 16], masks: [0; 16], trial: [NONE; 16] }
-    }
-
-    pub fn at_work(&self) -> bool {
-        matches!(self.state, State::AtWork { .. })
-    }
-}
 
 #[derive(Clone, Debug, PartialEq, Eq)]
 pub struct Desk {
@@ -90,7 +60,7 @@ impl Desk {
     /// 1 to 20, the checks of every call but open.
     fn checks(&self, board: &[u8], lent: Lent) -> Result<Catalogue, u16> {
         let catalogue = board_and_catalogue(board, lent)?;
-        if fit::misfit(self, &catalogue).is_some() {
+        if fit::misfit(self.next, &self.seats, &catalogue).is_some() {
             return Err(20);
         }
         Ok(catalogue)

@@ -1,7 +1,7 @@
 //! Number 20, clause by clause: "the desk doesn't fit the catalogue".
 
 use crate::catalogue::{Catalogue, FEATURES};
-use crate::desk::{Desk, Record, State, NONE};
+use crate::record::{Record, State, NONE};
 
 /// The clauses of number 20 in the paper's order. Only the count of each tells them apart.
 #[derive(Clone, Copy, Debug, PartialEq, Eq)]
@@ -39,12 +39,12 @@ pub const CLAUSES: [(Clause, &str); 14] = [
     (Clause::ClosedMask, "a closed seat with a mask bit"),
 ];
 
-/// The first clause met, if any; all eight seats are looked at.
-pub fn misfit(desk: &Desk, catalogue: &Catalogue) -> Option<Clause> {
-    if desk.next > 7 {
+/// The first clause met, if any, by the desk's next and its seats; all eight are looked at.
+pub fn misfit(next: u8, seats: &[Record], catalogue: &Catalogue) -> Option<Clause> {
+    if next > 7 {
         return Some(Clause::Next);
     }
-    desk.seats.iter().find_map(|record| misfit_of_seat(record, catalogue))
+    seats.iter().find_map(|record| misfit_of_seat(record, catalogue))
 }
 
 fn misfit_of_seat(record: &Record, catalogue: &Catalogue) -> Option<Clause> {

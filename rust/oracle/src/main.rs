@@ -12,6 +12,7 @@ mod expect;
 mod fit;
 mod generate;
 mod look;
+mod record;
 mod run;
 mod script;
 mod search;

@@ -3,7 +3,8 @@
 
 use crate::builds;
 use crate::catalogue::{self, Catalogue, FEATURES};
-use crate::desk::{Desk, Turned, BOARD, SEATS, SHARE};
+use crate::desk::{Desk, Turned, BOARD, SEATS};
+use crate::record::SHARE;
 use crate::tally::Tally;
 
 #[derive(Clone)]

@@ -1,10 +1,12 @@
 //! A script: the console's lines read and answered as CONSOLE.md says.
 
-use crate::desk::{Desk, Left, Lent, State, BOARD, NONE, SEATS};
+use crate::desk::{Desk, Left, Lent, BOARD, SEATS};
 use crate::fit::{misfit, CLAUSES};
+use crate::look;
+use crate::record::{State, NONE};
 use crate::run::Run;
 use crate::tally::Tally;
-use crate::words::{self, Spoken, CALLS};
+use crate::words::{self, say, Spoken, CALLS};
 
 const ANY: u32 = u32::MAX;
 const LINE: usize = 65_536;
@@ -116,9 +118,12 @@ impl Session {
         }
         match word {
             "seat" => say(out, &words::seat(n[0] as usize, &self.desk.seats[n[0] as usize])),
-            "desk" => self.whole_desk(out),
-            "share" => self.share(n[0] as usize, out),
-            "list" => self.list_seat(n[0], out),
+            "desk" => look::whole_desk(&self.desk, out),
+            "share" => look::share(&self.board, n[0] as usize, out),
+            "list" => {
+                let lent = Lent { sizes: &self.sizes, list: &self.list };
+                look::list_seat(&self.desk, &self.board, lent, n[0], out);
+            }
             "digest" => say(out, &format!("digest {:016x}", words::digest(&self.desk, &self.board))),
             "help" => {}
             "quit" => self.over = true,
@@ -198,7 +203,7 @@ impl Session {
                 self.tally.clauses[clause] += 1;
             }
         }
-        let mut text = words::refusal(refusal, self.spoken(n));
+        let mut text = words::refusal(refusal, Spoken::of(&self.board, lent, n));
         // Nothing but 0, "no seat at work" and an example of length 0 may stand beside a refusal;
         // were there anything, it would show here.
         if matches!(word, "options" | "example" | "turns") {
@@ -209,19 +214,8 @@ impl Session {
 
     fn clause_if_misfit(&self) -> Option<usize> {
         let catalogue = crate::catalogue::read(&self.sizes, &self.list).ok()?;
-        let clause = misfit(&self.desk, &catalogue)?;
+        let clause = misfit(self.desk.next, &self.desk.seats, &catalogue)?;
         CLAUSES.iter().position(|(other, _)| *other == clause)
-    }
-
-    pub fn spoken(&self, n: &[u32]) -> Spoken {
-        Spoken {
-            board: self.board.len(),
-            features: self.sizes.len(),
-            numbers: self.list.len(),
-            seat: n.first().copied().unwrap_or(0),
-            feature: n.get(1).copied().unwrap_or(0),
-            option: n.get(2).copied().unwrap_or(0),
-        }
     }
 
     /// Catalogue, board and the desk's fields.
@@ -295,9 +289,4 @@ fn within(numbers: &[u32], limits: &[u32]) -> bool {
 
 fn number_of(answer: Result<(), u16>) -> u16 {
     answer.err().unwrap_or(0)
-}
-
-pub fn say(out: &mut Vec<u8>, text: &str) {
-    out.extend(text.as_bytes());
-    out.push(b'\n');
 }

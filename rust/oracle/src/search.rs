@@ -1,7 +1,7 @@
 //! One step of the written search, rules 1 to 5, on whatever record number 20 lets through.
 
 use crate::catalogue::Catalogue;
-use crate::desk::{Record, State, EXAMPLE, NONE};
+use crate::record::{Record, State, EXAMPLE, NONE};
 use std::ops::Range;
 
 /// "For one pair the candidates at feature j are: a alone if j = i; else the choice in force alone;

@@ -1,6 +1,7 @@
 //! The console's words: forms of the commands, refusals, records, examples, the digest.
 
-use crate::desk::{Desk, Record, State, NONE};
+use crate::desk::{Desk, Lent};
+use crate::record::{Record, State, NONE};
 
 /// Each command's form, "just as the first column has it"; the first word is the command.
 pub const FORMS: [&str; 28] = [
@@ -54,6 +55,25 @@ pub struct Spoken {
     pub seat: u32,
     pub feature: u32,
     pub option: u32,
+}
+
+impl Spoken {
+    pub fn of(board: &[u8], lent: Lent, n: &[u32]) -> Spoken {
+        Spoken {
+            board: board.len(),
+            features: lent.sizes.len(),
+            numbers: lent.list.len(),
+            seat: n.first().copied().unwrap_or(0),
+            feature: n.get(1).copied().unwrap_or(0),
+            option: n.get(2).copied().unwrap_or(0),
+        }
+    }
+}
+
+/// Writes one line of the transcript.
+pub fn say(out: &mut Vec<u8>, text: &str) {
+    out.extend(text.as_bytes());
+    out.push(b'\n');
 }
 
 pub fn refusal(number: u16, spoken: Spoken) -> String {

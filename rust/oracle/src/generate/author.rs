@@ -3,7 +3,8 @@
 
 use super::catalogues::Draft;
 use super::random::Random;
-use crate::desk::{Desk, State, BOARD, NONE, SEATS};
+use crate::desk::{Desk, BOARD, SEATS};
+use crate::record::{State, NONE};
 use crate::script::Session;
 
 pub struct Author {

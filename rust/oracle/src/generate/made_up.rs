@@ -3,7 +3,8 @@
 
 use super::author::Author;
 use super::catalogues;
-use crate::desk::{Desk, Record, State, NONE, SEATS};
+use crate::desk::{Desk, SEATS};
+use crate::record::{Record, State, NONE};
 
 /// Desks within the limits of 20, stepped on and called.
 pub fn within_limits(author: &mut Author) {

@@ -2,7 +2,8 @@
 
 use super::author::Author;
 use super::catalogues;
-use crate::desk::{State, NONE, SEATS};
+use crate::desk::SEATS;
+use crate::record::{State, NONE};
 
 /// A run on a small catalogue; now and then the catalogue changes midway, and then it is no run.
 pub fn run(author: &mut Author) {
