@@ -14,7 +14,7 @@ use lib.Dec.{eqb, ltb}
 use Rattle.builds.specs.Rule.{highest}
 use Rattle.builds.specs.Catalogue.{width, featuresRead, isEmpty}
 use Rattle.builds.specs.inner.Starts.{wholeRule, wholeRules, startsFrom, startsAt, AllStarts}
-use Rattle.builds.proofs.WholeRule.{Whole, whole, both}
+use Rattle.builds.proofs.WholeRule.{WholeRule, whole, both}
 
 pub record Noted (rules places counts : List ℕ) (place : ℕ) : Type 0 where
   pub left : ℕ
@@ -96,7 +96,7 @@ module _ {rules places counts : List ℕ} {place : ℕ} (n : Noted rules places 
   here : RuleHere (n .left) rules place
   here = rule-here (n .left) rules place h (n .whole-rest)
 
-  pub whole-now : Whole (drop place rules)
+  pub whole-now : WholeRule (drop place rules)
   whole-now = whole (drop place rules) (here .whole-here)
 
   pub below-64 : (j : ℕ) → j < 16 → getD counts j 0 < 64

@@ -1,17 +1,24 @@
 -- Entries of lists that are joined or kept: what stands in such a list, and what holds of every two entries of it.
 use Prim.Native.Nat.{ℕ}
 use mathlib.Core.Path.{_≡_, refl, sym, subst}
-use mathlib.Core.Logic.{_↔_, ⊎-elim}
+use mathlib.Core.Logic.{_↔_, ⊎-elim, ∥∥₁-elim}
 use mathlib.Core.Bool.{Bool, true, false, cond}
-use mathlib.Core.List.{List, [], _∷_, _++_, map, List·Memᴰ, List·Memᴰ·head, List·Memᴰ·tail, List·Memᴰ·cases-cons, List·Memᴰ·not-nil}
-use Rattle.builds.specs.Every.{Every, EveryTwo}
-use Rattle.builds.specs.Builds.{keep}
+use mathlib.Core.List.{List, [], _∷_, _++_, map, List·Mem, List·Memᴰ, List·Memᴰ·head, List·Memᴰ·tail, List·Memᴰ·cases-cons, List·Memᴰ·not-nil, mem-cons-self, mem-cons-of-mem}
+use Rattle.builds.specs.Lists.{Every, EveryTwo}
+use Rattle.builds.specs.ListedBuilds.{keep}
 use Rattle.builds.proofs.Every.{every-head, every-tail, every-weaken}
 
 module _ {A : Type 0} {P : A → Type 0} where
   pub every-entry : {x : A} {xs : List A} → Every P xs → List·Memᴰ x xs → P x
   every-entry (Every.also h hs) (List·Memᴰ·head e) = subst P (sym e) h
   every-entry (Every.also h hs) (List·Memᴰ·tail m) = every-entry hs m
+
+  pub every-member : ((x : A) → IsProp (P x)) → {xs : List A} → Every P xs → (x : A) → List·Mem x xs → P x
+  every-member prop h x m = ∥∥₁-elim m (prop x) (every-entry h)
+
+  pub every-of-members : (xs : List A) → ((x : A) → List·Mem x xs → P x) → Every P xs
+  every-of-members [] h = Every.none
+  every-of-members (x ∷ xs) h = Every.also (h x mem-cons-self) (every-of-members xs (λ (y : A) m. h y (mem-cons-of-mem x m)))
 
   pub every-of-all : (xs : List A) → ((x : A) → P x) → Every P xs
   every-of-all [] h = Every.none

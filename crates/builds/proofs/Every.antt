@@ -1,11 +1,11 @@
--- Laws of `Every` and `Together`: what holds of every entry holds at each place, and so does what follows from it; two
--- lists that are taken together have one length.
+-- Laws of `Every` and of lists taken together: what holds of every entry holds at each place, and so does what follows from
+-- it; two lists that are taken together have one length.
 use Prim.Native.Nat.{ℕ, zero, suc, _<_}
 use mathlib.Core.Path.{_≡_, refl, ap}
-use mathlib.Core.List.{List, _∷_}
+use mathlib.Core.List.{List, _∷_, Forall₂, Forall₂·nil, Forall₂·cons}
 use native.Mathlib.Omega.{arith}
 use lib.ListN.{length, getD}
-use Rattle.builds.specs.Every.{Every, Together}
+use Rattle.builds.specs.Lists.{Every}
 
 module _ {A : Type 0} {P : A → Type 0} where
   pub every-at : {xs : List A} → Every P xs → (d : A) (i : ℕ) → i < length xs → P (getD xs i d)
@@ -27,7 +27,7 @@ module _ {A : Type 0} {P : A → Type 0} where
   every-both Every.none qs = Every.none
   every-both (Every.also p ps) (Every.also q qs) = Every.also (p, q) (every-both ps qs)
 
-pub together-length : {A B : Type 0} {P : A → B → Type 0} {xs : List A} {ys : List B} → Together P xs ys
+pub together-length : {A B : Type 0} {P : A → B → Type 0} {xs : List A} {ys : List B} → Forall₂ P xs ys
     → length xs ≡ length ys
-together-length Together.none = refl
-together-length (Together.also h hs) = ap suc (together-length hs)
+together-length Forall₂·nil = refl
+together-length (Forall₂·cons h hs) = ap suc (together-length hs)

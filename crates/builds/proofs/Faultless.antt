@@ -10,10 +10,10 @@ use borrow.Author.Tests.{ltb-false, le-ltb, leb-true, le-leb}
 use Rattle.builds.specs.Catalogue.{Catalogue, arity, width}
 use Rattle.builds.specs.Fault.{sizesFault, rulesFault, faultOf, oneTo16}
 use Rattle.builds.specs.inner.Starts.{wholeRule, wholeRules}
-use Rattle.builds.specs.Every.{Every}
+use Rattle.builds.specs.Lists.{Every}
 use Rattle.builds.proofs.Every.{every-at}
 use Rattle.builds.proofs.Inversion.{orElse-zero, when-zero, when-not-zero, ruleFault-zero}
-use Rattle.builds.proofs.WholeRule.{Whole}
+use Rattle.builds.proofs.WholeRule.{WholeRule}
 
 pub oneTo16-bounds : (n : ℕ) → oneTo16 n ≡ true → (1 ≤ n) × (n ≤ 16)
 oneTo16-bounds n h =
@@ -73,7 +73,7 @@ faultless-zero catalogue f =
     )
     refl
 
-whole-test : (list : List ℕ) → Whole list → wholeRule list ≡ true
+whole-test : (list : List ℕ) → WholeRule list → wholeRule list ≡ true
 whole-test list w =
     let low = le-leb 1 (arity list) (w .arity-low) in
     let high = le-leb (arity list) 6 (w .arity-high) in

@@ -8,19 +8,22 @@ use Prim.Native.Nat.{ℕ, zero, suc, _≤_}
 use mathlib.Core.Path.{_≡_, refl, ap, sym, _∙_}
 use mathlib.Core.Logic.{_↔_}
 use mathlib.Core.Bool.{false}
-use mathlib.Core.List.{List, [], _∷_, _++_}
+use mathlib.Core.List.{List, [], _∷_, _++_, map, flatten}
 use native.Mathlib.Omega.{arith}
 use lib.ListN.{length, drop}
 use Rattle.builds.specs.Rule.{Rule}
 use Rattle.builds.specs.Catalogue.{Catalogue, width, isEmpty, ruleRead, rulesRead, rulesOf}
 use Rattle.builds.specs.Fault.{rulesFault, faultOf}
-use Rattle.builds.specs.Every.{Every}
+use Rattle.builds.specs.Lists.{Every}
 use Rattle.builds.specs.inner.Starts.{FeaturesBelow}
-use Rattle.builds.specs.Format.{ruleWritten, written, WellFormed, Accepted}
+use Rattle.builds.specs.Format.{ruleWritten, WellFormed, Accepted}
 use Rattle.builds.proofs.Every.{every-weaken}
 use Rattle.builds.proofs.Inversion.{orElse-zero}
 use Rattle.builds.proofs.Faultless.{sizesFault-every, every-sizesFault, fault-zero, faultless-zero}
 use Rattle.builds.proofs.Format.OneRule.{rule-read, rule-front, rule-written, rule-back, rest-back}
+
+abbrev written : List Rule → List ℕ
+written rules = flatten (map ruleWritten rules)
 
 -- a list is the writing-out of the rules that are read from it: at most n, and well formed
 pub record Written (n : ℕ) (sizes list : List ℕ) : Type 0 where
@@ -29,7 +32,7 @@ pub record Written (n : ℕ) (sizes list : List ℕ) : Type 0 where
   pub written-out : written (rulesRead n list) ≡ list
 
 pub reads-written : (n : ℕ) (sizes list : List ℕ) → rulesFault n sizes list ≡ 0 → Written n sizes list
-unfolding rulesFault rulesRead written
+unfolding rulesFault rulesRead flatten
 reads-written zero sizes [] h = record { few = omega arith; well-formed = Every.none; written-out = refl }
 reads-written zero sizes (x ∷ xs) h = absurd (omega arith)
 reads-written (suc n) sizes [] h = record { few = omega arith; well-formed = Every.none; written-out = refl }
@@ -49,7 +52,7 @@ not-empty rule rest = refl
 module _ (sizes : List ℕ) where
   pub written-faultless : (n : ℕ) {rules : List Rule} → Every (WellFormed sizes) rules → length rules ≤ n
       → rulesFault n sizes (written rules) ≡ 0
-  unfolding rulesFault written
+  unfolding rulesFault flatten
   written-faultless zero Every.none few = refl
   written-faultless zero (Every.also w ws) few = absurd (omega arith)
   written-faultless (suc n) Every.none few = refl
@@ -63,7 +66,7 @@ module _ (sizes : List ℕ) where
 
   pub written-reads : (n : ℕ) {rules : List Rule} → Every (WellFormed sizes) rules → length rules ≤ n
       → rulesRead n (written rules) ≡ rules
-  unfolding rulesRead written
+  unfolding rulesRead flatten
   written-reads zero Every.none few = refl
   written-reads zero (Every.also w ws) few = absurd (omega arith)
   written-reads (suc n) Every.none few = refl

@@ -11,7 +11,7 @@ use borrow.Author.Tests.{ltb-false, le-ltb, leb-true, le-leb, not-false}
 use Rattle.builds.specs.Checks.{when, orElse}
 use Rattle.builds.specs.Catalogue.{arity, rowCount, rowsBegin, width, featuresRead}
 use Rattle.builds.specs.Fault.{ruleFault, featuresFault, rowsFault}
-use Rattle.builds.proofs.WholeRule.{Whole}
+use Rattle.builds.proofs.WholeRule.{WholeRule}
 
 pub orElse-zero : (a b : ℕ) → orElse a b ≡ 0 → (a ≡ 0) × (b ≡ 0)
 orElse-zero zero b h = (refl, h)
@@ -26,7 +26,7 @@ pub when-not-zero : (b : Bool) (n : ℕ) → when (not b) (suc n) ≡ 0 → b �
 when-not-zero b n h = not-false b (when-zero (not b) n h)
 
 -- every test of a rule, passed
-pub record Passed (sizes list : List ℕ) : Type 0 where
+pub record RulePassed (sizes list : List ℕ) : Type 0 where
   pub has-header : 2 ≤ length list
   pub arity-low : 1 ≤ arity list
   pub arity-high : arity list ≤ 6
@@ -35,7 +35,7 @@ pub record Passed (sizes list : List ℕ) : Type 0 where
   pub has-rows : arity list * rowCount list ≤ length list - rowsBegin list
   pub rows-fit : rowsFault sizes (featuresRead list) (rowCount list) (drop (rowsBegin list) list) ≡ 0
 
-pub ruleFault-passed : (sizes list : List ℕ) → ruleFault sizes list ≡ 0 → Passed sizes list
+pub ruleFault-passed : (sizes list : List ℕ) → ruleFault sizes list ≡ 0 → RulePassed sizes list
 unfolding ruleFault
 ruleFault-passed sizes list h =
     let t1 = orElse-zero _ _ h in
@@ -55,7 +55,7 @@ ruleFault-passed sizes list h =
       rows-fit = t6 .0;
     }
 
-pub passed-ruleFault : (sizes list : List ℕ) → Passed sizes list → ruleFault sizes list ≡ 0
+pub passed-ruleFault : (sizes list : List ℕ) → RulePassed sizes list → ruleFault sizes list ≡ 0
 unfolding ruleFault
 passed-ruleFault sizes list p =
     rw (
@@ -69,7 +69,7 @@ passed-ruleFault sizes list p =
     )
     refl
 
-pub ruleFault-zero : (sizes list : List ℕ) → ruleFault sizes list ≡ 0 → Whole list
+pub ruleFault-zero : (sizes list : List ℕ) → ruleFault sizes list ≡ 0 → WholeRule list
 ruleFault-zero sizes list h =
     let p = ruleFault-passed sizes list h in
     record {

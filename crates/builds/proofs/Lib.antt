@@ -1,13 +1,13 @@
 -- Laws that belong to no one function; the lower ones first.
 pub mod Every
 pub mod Entries
-pub mod Steps
+pub mod ListWalks
 pub mod Widths
 pub mod WholeRule
 pub mod Alone
 pub mod Inversion
 pub mod Faultless
-pub mod PlacedSteps
+pub mod PlacedWalks
 pub mod Starts
 pub mod AllStarts
 pub mod Format
@@ -17,4 +17,4 @@ pub mod Options
 pub mod Padded
 pub mod Dictionary
 pub mod Instantiations
-pub mod Builds
+pub mod ListedBuilds

@@ -5,13 +5,13 @@ use Prim.Native.Nat.{ℕ, _≤_, _<_}
 use mathlib.Core.Path.{_≡_, refl, sym, ap₂, _∙_}
 use mathlib.Core.Logic.{_↔_}
 use mathlib.Core.Bool.{Bool, true, false, cond, _&&_, and-eq-true-iff}
-use mathlib.Core.List.{List, [], _∷_}
+use mathlib.Core.List.{List, [], _∷_, map}
 use native.Mathlib.Omega.{arith}
 use lib.ListN.{length}
 use lib.Dec.{eqb}
 use borrow.Author.Tests.{eqb-true, eqb-false}
-use Rattle.builds.specs.Every.{Every}
-use Rattle.builds.specs.Rule.{Rule, optionAt, optionsAt, satisfies, satisfiesAll, highest, rulesAt, passes}
+use Rattle.builds.specs.Lists.{Every}
+use Rattle.builds.specs.Rule.{Rule, optionAt, satisfies, satisfiesAll, highest, rulesAt, passes}
 use Rattle.builds.specs.Catalogue.{Catalogue, rulesOf}
 use Rattle.builds.specs.Fault.{faultOf}
 use Rattle.builds.proofs.Every.{every-head, every-tail, every-weaken}
@@ -24,8 +24,8 @@ AgreeTo f build other = (g : ℕ) → g ≤ f → optionAt build g ≡ optionAt 
 -- ---- what a test depends on
 
 options-agree : (j : ℕ) (build other features : List ℕ) → AgreeTo j build other → highest features ≤ j
-    → optionsAt build features ≡ optionsAt other features
-unfolding optionsAt highest
+    → map (optionAt build) features ≡ map (optionAt other) features
+unfolding highest
 options-agree j build other [] same h = refl
 options-agree j build other (f ∷ features) same h =
     ap₂ _∷_ (same f (omega arith)) (options-agree j build other features same (omega arith))

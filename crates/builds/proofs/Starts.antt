@@ -11,7 +11,7 @@ use lib.Dec.{eqb}
 use Rattle.builds.specs.Rule.{Rule, highest, rulesAt, satisfies, satisfiesAll, passes}
 use Rattle.builds.specs.Catalogue.{width, featuresRead, isEmpty, ruleRead, rulesRead}
 use Rattle.builds.specs.inner.Starts.{wholeRule, wholeRules, EachBelow, FeaturesBelow, startsFrom, startsAt, rulesFrom}
-use Rattle.builds.specs.Every.{Every, none, also}
+use Rattle.builds.specs.Lists.{Every, none, also}
 use Rattle.builds.proofs.Every.{every-at, every-head, every-tail}
 use Rattle.builds.proofs.WholeRule.{both}
 

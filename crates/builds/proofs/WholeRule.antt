@@ -3,16 +3,16 @@
 use Prim.Native.Nat.{ℕ, zero, suc, _+_, _*_, _≤_}
 use mathlib.Core.Path.{_≡_, refl, ap}
 use mathlib.Core.Bool.{Bool, true, false, cond, _&&_}
-use mathlib.Core.List.{List, [], _∷_}
+use mathlib.Core.List.{List, [], _∷_, map}
 use native.Mathlib.Nat.{zero-add, suc-add, add-comm, mul-suc, le-add-right}
 use borrow.Author.Tests.{leb-true}
 use lib.ListN.{length, take, drop}
 use lib.Seq.{take-take, take-nil}
-use Rattle.builds.specs.Rule.{optionsAt, someRow, satisfies}
+use Rattle.builds.specs.Rule.{optionAt, someRow, satisfies}
 use Rattle.builds.specs.Catalogue.{arity, rowCount, rowsBegin, width, featuresRead, rowsRead, ruleRead}
 use Rattle.builds.specs.inner.Starts.{wholeRule}
 
-pub record Whole (list : List ℕ) : Type 0 where
+pub record WholeRule (list : List ℕ) : Type 0 where
   pub has-header : 2 ≤ length list
   pub arity-low : 1 ≤ arity list
   pub arity-high : arity list ≤ 6
@@ -22,7 +22,7 @@ pub both : (a b : Bool) → (a && b) ≡ true → (a ≡ true) × (b ≡ true)
 both true b e = (refl, e)
 both false b e = (e, ap (λ (t : Bool). cond t true b) e)
 
-pub whole : (list : List ℕ) → wholeRule list ≡ true → Whole list
+pub whole : (list : List ℕ) → wholeRule list ≡ true → WholeRule list
 whole list e =
     let first = both _ _ e in
     let second = both _ _ (first .1) in
@@ -47,7 +47,7 @@ rows-of-part k (suc m) l = rw (mul-suc, add-comm (k * m) k, take-take k (k + k *
 
 pub satisfied-by-parts : (list placed : List ℕ)
     → someRow (rowsRead (arity list) (rowCount list) (take (arity list * rowCount list) (drop (rowsBegin list) list)))
-    (optionsAt placed (featuresRead list))
+    (map (optionAt placed) (featuresRead list))
     ≡ satisfies placed (ruleRead list)
 unfolding satisfies ruleRead
 satisfied-by-parts list placed = rw rows-of-part

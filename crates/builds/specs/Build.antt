@@ -6,7 +6,7 @@ use mathlib.Core.Bool.{true}
 use mathlib.Core.Logic.{_⊎_}
 use mathlib.Core.List.{List, _∷_, _++_}
 use lib.ListN.{length, getD, replicate}
-use Rattle.builds.specs.Every.{Every}
+use Rattle.builds.specs.Lists.{Every}
 use Rattle.builds.specs.Rule.{Rule, optionAt, satisfies}
 use Rattle.builds.specs.Catalogue.{Catalogue, sizeOf, rulesOf}
 

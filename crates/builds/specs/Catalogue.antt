@@ -4,6 +4,7 @@ use Prim.Native.Nat.{ℕ, zero, suc, _+_, _*_}
 use mathlib.Core.Bool.{Bool, true, false, cond}
 use mathlib.Core.List.{List, [], _∷_}
 use lib.ListN.{getD, take, drop}
+use Rattle.builds.specs.Lists.{countFrom}
 use Rattle.builds.specs.Rule.{Rule}
 
 pub record Catalogue : Type 0 where
@@ -17,6 +18,10 @@ catalogueOf sizes list = record { sizes = sizes; list = list }
 -- 0 for a missing feature, so that it has no option
 abbrev pub sizeOf : Catalogue → ℕ → ℕ
 sizeOf catalogue f = getD (catalogue .sizes) f 0
+
+-- the options of a feature: 0 to size − 1
+abbrev pub optionsOf : ℕ → List ℕ
+optionsOf size = countFrom 0 size
 
 abbrev pub arity : List ℕ → ℕ
 arity list = getD list 0 0

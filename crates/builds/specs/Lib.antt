@@ -1,5 +1,5 @@
 -- What a reader of this crate must believe, lowest first; `inner` is for code and proofs alone.
-pub mod Every
+pub mod Lists
 pub mod Checks
 pub mod Rule
 pub mod Catalogue
@@ -7,5 +7,5 @@ pub mod Fault
 pub mod Format
 pub mod Build
 pub mod Gic
-pub mod Builds
+pub mod ListedBuilds
 pub mod inner

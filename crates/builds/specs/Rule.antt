@@ -1,7 +1,7 @@
 -- What a rule is and what it means. A build is the list of its options, that of feature 0 first.
 use Prim.Native.Nat.{ℕ, max}
 use mathlib.Core.Bool.{Bool, true, false, cond, _&&_, _||_}
-use mathlib.Core.List.{List, [], _∷_}
+use mathlib.Core.List.{List, [], _∷_, map, foldr}
 use lib.ListN.{getD}
 use lib.Dec.{eqb}
 
@@ -13,12 +13,7 @@ pub record Rule : Type 0 where
 abbrev pub optionAt : List ℕ → ℕ → ℕ
 optionAt build feature = getD build feature 255
 
--- the build's options at the rule's features, in the rule's order
-unfoldable pub optionsAt : List ℕ → List ℕ → List ℕ
-optionsAt build [] = []
-optionsAt build (feature ∷ features) = optionAt build feature ∷ optionsAt build features
-
--- when a row matches those options: one meaning for every row of every rule
+-- when a row matches options: one meaning for every row of every rule
 unfoldable pub matches : List ℕ → List ℕ → Bool
 matches [] [] = true
 matches [] (o ∷ os) = false
@@ -30,9 +25,9 @@ unfoldable pub someRow : List (List ℕ) → List ℕ → Bool
 someRow [] options = false
 someRow (row ∷ rows) options = matches row options || someRow rows options
 
--- a build satisfies a rule when its options at the rule's features are one of the rows
+-- a build satisfies a rule when its options at the rule's features, in the rule's order, are one of the rows
 unfoldable pub satisfies : List ℕ → Rule → Bool
-satisfies build rule = someRow (rule .rows) (optionsAt build (rule .features))
+satisfies build rule = someRow (rule .rows) (map (optionAt build) (rule .features))
 
 unfoldable pub satisfiesAll : List ℕ → List Rule → Bool
 satisfiesAll build [] = true
@@ -40,8 +35,7 @@ satisfiesAll build (rule ∷ rules) = satisfies build rule && satisfiesAll build
 
 -- the highest-numbered of a rule's features
 unfoldable pub highest : List ℕ → ℕ
-highest [] = 0
-highest (feature ∷ features) = max feature (highest features)
+highest features = foldr max 0 features
 
 -- the rules that are tested when an option is placed at feature j
 unfoldable pub rulesAt : ℕ → List Rule → List Rule

@@ -1,12 +1,12 @@
 // The fault met first: one function for each part of the reading, one loop each.
-use crate::numbers::size_at;
-use crate::numbers::wide;
+use numbers::size_at;
+use numbers::wide;
 ghost use mathlib.Core.Path.{_≡_};
 ghost use mathlib.Core.List.{[]};
 ghost use Prim.Native.Nat.{_≤_, _*_};
 ghost use lib.ListN.{length};
-ghost use Rattle.builds.specs.Fault.{sizesFault, member, featuresFault, rowFits, rowsFault};
-ghost use Rattle.builds.specs.Fault.{ruleFault, rulesFault, faultOf};
+ghost use Rattle.builds.specs.Lists.{member};
+ghost use Rattle.builds.specs.Fault.{sizesFault, featuresFault, rowFits, rowsFault, ruleFault, rulesFault, faultOf};
 ghost use Rattle.builds.specs.Catalogue.{arity, width};
 
 // 10 to 18, or 0 for none.

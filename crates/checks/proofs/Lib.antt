@@ -1,2 +1,3 @@
--- How the numbers of the calls are made of each other.
-pub mod Numbers
+-- The table's rows, walked from the front, and how a longer call's number is made of a shorter one's.
+pub mod Rows
+pub mod Adds

@@ -1,20 +1,38 @@
 // The table of refusal numbers, in its order. Of the board the checks ask the length alone.
+use runs::Asking;
 use runs::Desk;
-use seat::has_choice;
-use seat::is_at_work;
-use seat::is_closed;
-use seat::is_left;
+use runs::Reading;
+use search::Seat;
+use look::has_choice;
+use look::is_at_work;
+use look::is_closed;
+use look::is_left;
 ghost use mathlib.Core.Path.{_≡_};
 ghost use mathlib.Core.List.{List};
-ghost use Prim.Native.Nat.{ℕ, _<_};
+ghost use Prim.Native.Nat.{ℕ};
 ghost use lib.ListN.{length};
 ghost use Rattle.builds.specs.Catalogue.{catalogueOf};
+ghost use Rattle.builds.specs.Checks.{first};
+ghost use Rattle.builds.specs.Lists.{member};
 ghost use Rattle.builds.specs.Fault.{faultOf};
 ghost use Rattle.checks.specs.inner.Refuses.{Refuses};
-ghost use Rattle.runs.specs.Call.{enter, leave, choose, relax, options, example, turns};
-ghost use Rattle.runs.specs.Fit.{deskFits};
-ghost use Rattle.runs.specs.Refusal.{openRefusal, refusal};
+ghost use Rattle.runs.specs.Call.{asks, turns};
+ghost use Rattle.runs.specs.DeskFits.{deskFits};
+ghost use Rattle.runs.specs.RefusalTable.{openRefusal, refusal, row, seatRows, askedRows};
 ghost use Rattle.runs.specs.Room.{roomOf};
+
+// The rows from 31 on that each call lists.
+const ENTER: [u8; 1] = [32];
+
+const LEAVE: [u8; 1] = [31];
+
+const CHOOSE: [u8; 6] = [31, 33, 34, 35, 36, 37];
+
+const RELAX: [u8; 4] = [31, 33, 34, 38];
+
+const OPTIONS: [u8; 3] = [31, 33, 34];
+
+const EXAMPLE: [u8; 5] = [31, 33, 34, 35, 37];
 
 // 1 and 10 to 18: what open checks.
 pub fn open_number(board_length: usize, sizes: &[u8], rules: &[u16]) -> u8
@@ -42,8 +60,16 @@ pub fn turns_number(desk: Desk, board_length: usize, sizes: &[u8], rules: &[u16]
     20
 }
 
-pub fn enter_number(desk: Desk, board_length: usize, sizes: &[u8], rules: &[u16], c: usize) -> u8
-    ensures { λ r. ⌜ Refuses (now (sizes .entry)) (now (rules .entry)) desk «board_length» (enter c) r ⌝ }
+// The number of an asking: 1 to 20, then 30, then the rows that it lists.
+pub fn number(
+    asking: Asking,
+    desk: Desk,
+    board_length: usize,
+    sizes: &[u8],
+    rules: &[u16],
+    c: usize,
+) -> u8
+    ensures { λ r. ⌜ Refuses (now (sizes .entry)) (now (rules .entry)) desk «board_length» (asks c asking) r ⌝ }
 {
     let number = turns_number(desk, board_length, sizes, rules);
     if number != 0 {
@@ -53,127 +79,84 @@ pub fn enter_number(desk: Desk, board_length: usize, sizes: &[u8], rules: &[u16]
         return 30;
     }
     let seats = desk.seats;
-    if is_closed(seats[c]) {
-        return 0;
-    }
-    32
+    asked(asking, seats[c], sizes)
 }
 
-pub fn leave_number(desk: Desk, board_length: usize, sizes: &[u8], rules: &[u16], c: usize) -> u8
-    ensures { λ r. ⌜ Refuses (now (sizes .entry)) (now (rules .entry)) desk «board_length» (leave c) r ⌝ }
+// The rows that the call lists, of the feature and the option that it names.
+fn asked(asking: Asking, seat: Seat, sizes: &[u8]) -> u8
+    ensures { λ r. ⌜ r ≡ first (askedRows (now (sizes .entry)) seat asking) ⌝ }
 {
-    let number = turns_number(desk, board_length, sizes, rules);
-    if number != 0 {
+    match asking {
+        Asking::Enter => walked(&ENTER, seat, sizes, 0, 0),
+        Asking::Leave => walked(&LEAVE, seat, sizes, 0, 0),
+        Asking::Choose { feature, option } => walked(&CHOOSE, seat, sizes, feature, option),
+        Asking::Relax { feature } => walked(&RELAX, seat, sizes, feature, 0),
+        Asking::Read(reading) => match reading {
+            Reading::Options { feature } => walked(&OPTIONS, seat, sizes, feature, 0),
+            Reading::Example { feature, option } => walked(&EXAMPLE, seat, sizes, feature, option),
+        },
+    }
+}
+
+// The table from row 31 on, for the rows that are listed.
+fn walked(listed: &[u8], seat: Seat, sizes: &[u8], i: usize, a: usize) -> u8
+    ensures { λ r. ⌜ r ≡ first (seatRows (now (listed .entry)) (now (sizes .entry)) seat i a) ⌝ }
+{
+    let closed = is_closed(seat);
+    let chosen = has_choice(seat, i);
+    let rows = [
+        row(listed, 31, closed),
+        row(listed, 32, !closed),
+        row(listed, 33, is_at_work(seat)),
+        row(listed, 34, sizes.len() <= i),
+        row(listed, 35, numbers::size_at(sizes, i) <= a),
+        row(listed, 36, chosen),
+        row(listed, 37, !is_left(seat, i, a)),
+        row(listed, 38, !chosen),
+    ];
+    first_of(&rows)
+}
+
+// A row gives its number where it is listed and its condition holds.
+fn row(listed: &[u8], number: u8, condition: bool) -> u8
+    ensures { λ r. ⌜ r ≡ row (now (listed .entry)) number condition ⌝ }
+{
+    if !lists(listed, number) {
+        return 0;
+    }
+    if condition {
         return number;
-    }
-    if 7 < c {
-        return 30;
-    }
-    let seats = desk.seats;
-    if is_closed(seats[c]) {
-        return 31;
     }
     0
 }
 
-// What every call that names a feature checks first, and all that options checks.
-pub fn options_number(
-    desk: Desk,
-    board_length: usize,
-    sizes: &[u8],
-    rules: &[u16],
-    c: usize,
-    i: usize,
-) -> u8
-    ensures { λ r. ⌜ Refuses (now (sizes .entry)) (now (rules .entry)) desk «board_length» (options c i) r ⌝ }
+// Whether a row is listed.
+fn lists(listed: &[u8], number: u8) -> bool
+    ensures { λ r. ⌜ r ≡ member number (now (listed .entry)) ⌝ }
 {
-    let number = leave_number(desk, board_length, sizes, rules, c);
-    if number != 0 {
-        return number;
+    let mut i = 0;
+    while i < listed.len() {
+        if number == listed[i] {
+            return true;
+        }
+        i += 1;
     }
-    let seats = desk.seats;
-    if is_at_work(seats[c]) {
-        return 33;
-    }
-    if sizes.len() <= i {
-        return 34;
+    false
+}
+
+// The first row that gives a number counts.
+fn first_of(rows: &[u8]) -> u8
+    ensures { λ r. ⌜ r ≡ first (now (rows .entry)) ⌝ }
+{
+    let mut i = 0;
+    while i < rows.len() {
+        let number = rows[i];
+        if number != 0 {
+            return number;
+        }
+        i += 1;
     }
     0
-}
-
-pub fn choose_number(
-    desk: Desk,
-    board_length: usize,
-    sizes: &[u8],
-    rules: &[u16],
-    c: usize,
-    i: usize,
-    a: usize,
-) -> u8
-    ensures { λ r. ⌜ Refuses (now (sizes .entry)) (now (rules .entry)) desk «board_length» (choose c i a) r ⌝ }
-{
-    let number = options_number(desk, board_length, sizes, rules, c, i);
-    if number != 0 {
-        return number;
-    }
-    if byte(sizes[i]) <= a {
-        return 35;
-    }
-    let seats = desk.seats;
-    let seat = seats[c];
-    if has_choice(seat, i) {
-        return 36;
-    }
-    if is_left(seat, i, a) {
-        return 0;
-    }
-    37
-}
-
-pub fn relax_number(
-    desk: Desk,
-    board_length: usize,
-    sizes: &[u8],
-    rules: &[u16],
-    c: usize,
-    i: usize,
-) -> u8
-    ensures { λ r. ⌜ Refuses (now (sizes .entry)) (now (rules .entry)) desk «board_length» (relax c i) r ⌝ }
-{
-    let number = options_number(desk, board_length, sizes, rules, c, i);
-    if number != 0 {
-        return number;
-    }
-    let seats = desk.seats;
-    if has_choice(seats[c], i) {
-        return 0;
-    }
-    38
-}
-
-pub fn example_refusal(
-    desk: Desk,
-    board_length: usize,
-    sizes: &[u8],
-    rules: &[u16],
-    c: usize,
-    i: usize,
-    a: usize,
-) -> u8
-    ensures { λ r. ⌜ Refuses (now (sizes .entry)) (now (rules .entry)) desk «board_length» (example c i a) r ⌝ }
-{
-    let number = options_number(desk, board_length, sizes, rules, c, i);
-    if number != 0 {
-        return number;
-    }
-    if byte(sizes[i]) <= a {
-        return 35;
-    }
-    let seats = desk.seats;
-    if is_left(seats[c], i, a) {
-        return 0;
-    }
-    37
 }
 
 // Number 20: the desk fits a catalogue without a fault.
@@ -194,10 +177,4 @@ fn desk_fits(desk: Desk, sizes: &[u8], rules: &[u16]) -> bool
         c += 1;
     }
     true
-}
-
-fn byte(x: u8) -> usize
-    ensures { λ r. ⌜ (r ≡ x) × (r < 256) ⌝ }
-{
-    x as usize
 }

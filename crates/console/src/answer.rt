@@ -1,38 +1,23 @@
 // One line and its answer.
-use crate::calls;
-use crate::commands::DESK;
-use crate::commands::DIGEST;
-use crate::commands::Form;
-use crate::commands::HELP;
-use crate::commands::LIST;
-use crate::commands::MORE;
-use crate::commands::NONE;
-use crate::commands::QUIT;
-use crate::commands::SEAT;
-use crate::commands::SET_BYTE;
-use crate::commands::SET_TRIAL;
-use crate::commands::SHARE;
-use crate::commands::TURNS;
-use crate::commands::command_of;
-use crate::commands::takes;
-use crate::commands::write_form;
-use crate::digest;
-use crate::fields;
-use crate::help;
-use crate::line::text;
-use crate::list;
-use crate::look;
-use crate::refusal::Asked;
-use crate::room;
-use crate::room::Room;
-use crate::words::Numbers;
-use crate::words::Stretch;
-use crate::words::at;
-use crate::words::between;
-use crate::words::end_of;
-use crate::words::first;
-use crate::words::least;
-use crate::words::read_numbers;
+use lines::Numbers;
+use lines::Stretch;
+use lines::at;
+use lines::between;
+use lines::commands::Form;
+use lines::commands::MORE;
+use lines::commands::NONE;
+use lines::commands::QUIT;
+use lines::commands::SET_BYTE;
+use lines::commands::command_of;
+use lines::commands::takes;
+use lines::commands::write_form;
+use lines::end_of;
+use lines::first;
+use lines::least;
+use lines::read_numbers;
+use lines::text;
+use room::Room;
+use room::obey;
 
 // What has become of a script's lines.
 pub struct Sitting {
@@ -146,82 +131,4 @@ fn has_place(room: Room, command: usize, place: usize, count: usize) -> bool {
         MORE => count <= 9000 - least(room.rules_count, 9000),
         _ => true,
     }
-}
-
-fn obey(
-    room: Room,
-    board: &mut [u8],
-    sizes: &mut [u8],
-    rules: &mut [u16],
-    command: usize,
-    numbers: &[u32],
-) -> Room {
-    if command <= TURNS {
-        return call(room, board, sizes, rules, command, numbers);
-    }
-    if command <= SET_BYTE {
-        return room::set(room, board, sizes, rules, command, numbers);
-    }
-    if command <= SET_TRIAL {
-        let desk = fields::set(room.desk, command, numbers);
-        text(b"set\n");
-        return with_desk(room, desk);
-    }
-    look(room, board, sizes, rules, command, at(numbers, 0));
-    room
-}
-
-fn call(
-    room: Room,
-    board: &mut [u8],
-    sizes: &[u8],
-    rules: &[u16],
-    command: usize,
-    numbers: &[u32],
-) -> Room {
-    let b = least(room.board_length, board.len());
-    let s = least(room.sizes_count, sizes.len());
-    let r = least(room.rules_count, rules.len());
-    let asked = Asked {
-        seat: at(numbers, 0),
-        feature: at(numbers, 1),
-        option: at(numbers, 2),
-    };
-    let desk = calls::call(
-        room.desk,
-        &mut board[0..b],
-        &sizes[0..s],
-        &rules[0..r],
-        command,
-        asked,
-    );
-    with_desk(room, desk)
-}
-
-fn with_desk(room: Room, desk: desk::Desk) -> Room {
-    Room {
-        desk,
-        board_length: room.board_length,
-        sizes_count: room.sizes_count,
-        rules_count: room.rules_count,
-    }
-}
-
-fn look(room: Room, board: &[u8], sizes: &[u8], rules: &[u16], command: usize, seat: u32) {
-    let lent = between(board, 0, room.board_length);
-    match command {
-        SEAT => look::seat(room.desk, seat as usize),
-        DESK => look::desk(room.desk),
-        SHARE => look::share(lent, seat),
-        LIST => list(room, lent, sizes, rules, seat),
-        DIGEST => digest::digest(room.desk, lent),
-        HELP => help::help(),
-        _ => {}
-    }
-}
-
-fn list(room: Room, board: &[u8], sizes: &[u8], rules: &[u16], seat: u32) {
-    let s = least(room.sizes_count, sizes.len());
-    let r = least(room.rules_count, rules.len());
-    list::list(room.desk, board, &sizes[0..s], &rules[0..r], seat);
 }

@@ -1,22 +1,11 @@
 // The console: lines of text in, answers out, over one desk. docs/CONSOLE.md has its lines. With no argument it reads
 // standard input; else each argument names a script.
 mod answer;
-mod calls;
-mod commands;
-mod digest;
-mod fields;
-mod help;
-mod line;
-mod list;
-mod look;
-mod refusal;
-mod room;
 mod script;
-mod words;
 
-use line::text;
+use lines::between;
+use lines::text;
 use script::script;
-use words::between;
 
 fn main() {
     let count = os::arg_count();

@@ -2,14 +2,14 @@
 use crate::answer::Sitting;
 use crate::answer::answer;
 use crate::answer::not_understood;
-use crate::line::around;
-use crate::line::text;
-use crate::room;
-use crate::words::Stretch;
-use crate::words::between;
-use crate::words::end_of;
-
-const LONGEST: usize = 65536;
+use lines::LONGEST;
+use lines::Stretch;
+use lines::append;
+use lines::around;
+use lines::between;
+use lines::end_of;
+use lines::read_some;
+use lines::text;
 
 struct Reading {
     sitting: Sitting,
@@ -121,12 +121,6 @@ fn read_on(
     )
 }
 
-// A read that fails counts as the end.
-fn read_some(fd: i32, chunk: &mut [u8]) -> usize {
-    let got = libc::read(fd, chunk);
-    io::count(got, chunk)
-}
-
 // Answers each line that these bytes end.
 fn feed(
     before: Reading,
@@ -180,21 +174,6 @@ fn next_line(
     after.sitting = sitting;
     after.more = !sitting.ended;
     after
-}
-
-// Bytes put to the end of a line; answers its length.
-fn append(line: &mut [u8], length: usize, bytes: &[u8]) -> usize {
-    let mut to = length;
-    let mut i = 0usize;
-    while i < bytes.len() {
-        if line.len() <= to {
-            return LONGEST + 1;
-        }
-        line[to] = bytes[i];
-        to += 1;
-        i += 1;
-    }
-    to
 }
 
 fn whole(

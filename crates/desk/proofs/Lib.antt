@@ -1,2 +1,3 @@
--- What the calls that read a seat cite.
+-- What the calls cite.
+pub mod Placed
 pub mod Readings

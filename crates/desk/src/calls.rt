@@ -1,27 +1,26 @@
 // The calls that open the desk or change one seat. A call for a seat lends on that seat's 4,096 bytes alone.
-use checks::choose_number;
-use checks::enter_number;
-use checks::leave_number;
-use checks::open_number;
-use checks::relax_number;
+use runs::Asking;
 use runs::Changed;
 use runs::Desk;
 use search::Seat;
 ghost use mathlib.Core.Path.{_≡_};
-ghost use Prim.Native.Nat.{_<_};
+ghost use mathlib.Core.List.{List};
+ghost use Prim.Native.Nat.{ℕ, _<_};
 ghost use lib.ListN.{set};
 ghost use Rattle.builds.specs.Catalogue.{catalogueOf};
-ghost use Rattle.runs.specs.Call.{enter, leave, choose, relax};
+ghost use Rattle.search.specs.Clinic.{Clinic};
+ghost use Rattle.runs.specs.declared.Asking.the-variants.{Enter, Leave, Choose, Relax};
+ghost use Rattle.runs.specs.Call.{asks, plain};
 ghost use Rattle.runs.specs.Answers.{ChangesTo};
 ghost use Rattle.runs.specs.Room.{freshDesk};
-ghost use Rattle.runs.specs.Perform.{performed, opening};
+ghost use Rattle.runs.specs.Perform.{kindOf, answerBy, performed, opening};
 
 // The board filled with 255, all seats closed, next seat 0.
 pub fn open(board: &mut [u8], sizes: &[u8], rules: &[u16]) -> Changed
     ensures { λ r. ⌜ ChangesTo
         (opening (catalogueOf (now (sizes .entry)) (now (rules .entry))) (now (board .entry))) r (now (board .exit)) ⌝ }
 {
-    let number = open_number(board.len(), sizes, rules);
+    let number = checks::open_number(board.len(), sizes, rules);
     if number == 0 {
         seat::empty(board);
     }
@@ -34,40 +33,19 @@ pub fn open(board: &mut [u8], sizes: &[u8], rules: &[u16]) -> Changed
 // The closed seat gets a job.
 pub fn enter(desk: Desk, board: &mut [u8], sizes: &[u8], rules: &[u16], c: usize) -> Changed
     ensures { λ r. ⌜ ChangesTo
-        (performed (now (sizes .entry)) (now (rules .entry)) desk (now (board .entry)) (enter c))
+        (performed (now (sizes .entry)) (now (rules .entry)) desk (now (board .entry)) (asks c Enter))
         r (now (board .exit)) ⌝ }
 {
-    let number = enter_number(desk, board.len(), sizes, rules, c);
-    if number != 0 {
-        return Changed { number, desk };
-    }
-    let from = c * 4096;
-    let to = from + 4096;
-    let seats = desk.seats;
-    let seat = seat::enter(seats[c], &mut board[from..to], sizes);
-    Changed {
-        number: 0,
-        desk: with_seat(desk, c, seat),
-    }
+    ask(desk, board, sizes, rules, c, Asking::Enter)
 }
 
 // An open seat, ready or at work, becomes closed.
 pub fn leave(desk: Desk, board: &mut [u8], sizes: &[u8], rules: &[u16], c: usize) -> Changed
     ensures { λ r. ⌜ ChangesTo
-        (performed (now (sizes .entry)) (now (rules .entry)) desk (now (board .entry)) (leave c))
+        (performed (now (sizes .entry)) (now (rules .entry)) desk (now (board .entry)) (asks c Leave))
         r (now (board .exit)) ⌝ }
 {
-    let number = leave_number(desk, board.len(), sizes, rules, c);
-    if number != 0 {
-        return Changed { number, desk };
-    }
-    let from = c * 4096;
-    let to = from + 4096;
-    let seat = seat::close(&mut board[from..to]);
-    Changed {
-        number: 0,
-        desk: with_seat(desk, c, seat),
-    }
+    ask(desk, board, sizes, rules, c, Asking::Leave)
 }
 
 // Sets one choice.
@@ -81,22 +59,14 @@ pub fn choose(
     a: usize,
 ) -> Changed
     ensures { λ r. ⌜ ChangesTo
-        (performed (now (sizes .entry)) (now (rules .entry)) desk (now (board .entry)) (choose c i a))
+        (performed (now (sizes .entry)) (now (rules .entry)) desk (now (board .entry)) (asks c (Choose i a)))
         r (now (board .exit)) ⌝ }
 {
-    let number = choose_number(desk, board.len(), sizes, rules, c, i, a);
-    if number != 0 {
-        return Changed { number, desk };
-    }
-    let from = c * 4096;
-    let to = from + 4096;
-    let seats = desk.seats;
-    let option = (a % 256) as u8;
-    let seat = seat::choose(seats[c], &mut board[from..to], sizes, i, option);
-    Changed {
-        number: 0,
-        desk: with_seat(desk, c, seat),
-    }
+    let asking = Asking::Choose {
+        feature: i,
+        option: a,
+    };
+    ask(desk, board, sizes, rules, c, asking)
 }
 
 // Drops one choice.
@@ -109,17 +79,34 @@ pub fn relax(
     i: usize,
 ) -> Changed
     ensures { λ r. ⌜ ChangesTo
-        (performed (now (sizes .entry)) (now (rules .entry)) desk (now (board .entry)) (relax c i))
+        (performed (now (sizes .entry)) (now (rules .entry)) desk (now (board .entry)) (asks c (Relax i)))
         r (now (board .exit)) ⌝ }
 {
-    let number = relax_number(desk, board.len(), sizes, rules, c, i);
+    ask(desk, board, sizes, rules, c, Asking::Relax { feature: i })
+}
+
+// An asking that has no more to say than its number. Accepted, it leaves its seat another record and share.
+fn ask(
+    desk: Desk,
+    board: &mut [u8],
+    sizes: &[u8],
+    rules: &[u16],
+    c: usize,
+    asking: Asking,
+) -> Changed
+    requires { ⌜ ((choices : List ℕ) (clinic : Clinic) → answerBy (kindOf asking choices) clinic ≡ plain) ⌝ }
+    ensures { λ r. ⌜ ChangesTo
+        (performed (now (sizes .entry)) (now (rules .entry)) desk (now (board .entry)) (asks c asking))
+        r (now (board .exit)) ⌝ }
+{
+    let number = checks::number(asking, desk, board.len(), sizes, rules, c);
     if number != 0 {
         return Changed { number, desk };
     }
     let from = c * 4096;
     let to = from + 4096;
     let seats = desk.seats;
-    let seat = seat::relax(seats[c], &mut board[from..to], sizes, i);
+    let seat = seat::left_by(asking, seats[c], &mut board[from..to], sizes);
     Changed {
         number: 0,
         desk: with_seat(desk, c, seat),

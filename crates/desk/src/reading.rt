@@ -1,10 +1,12 @@
 // The calls that read a ready seat.
-use checks::example_refusal;
-use checks::options_number;
+use runs::Asking;
 use runs::Desk;
 use runs::Left;
+use runs::Reading;
 ghost use mathlib.Core.Path.{_≡_};
-ghost use Rattle.runs.specs.Call.{options, example};
+ghost use Rattle.runs.specs.declared.Asking.the-variants.{Read};
+ghost use Rattle.runs.specs.declared.Reading.the-variants.{Options, Example};
+ghost use Rattle.runs.specs.Call.{asks};
 ghost use Rattle.runs.specs.Answers.{ReadsAs, exampleBegins};
 ghost use Rattle.runs.specs.Perform.{performed};
 ghost use Rattle.runs.specs.Room.{roomOf};
@@ -12,10 +14,11 @@ ghost use Rattle.runs.specs.Room.{roomOf};
 // The mask of one feature and how many bits are set in it.
 pub fn options(desk: Desk, board: &[u8], sizes: &[u8], rules: &[u16], c: usize, i: usize) -> Left
     ensures { λ r. ⌜ ReadsAs
-        (performed (now (sizes .entry)) (now (rules .entry)) desk (now (board .entry)) (options c i))
+        (performed (now (sizes .entry)) (now (rules .entry)) desk (now (board .entry)) (asks c (Read (Options i))))
         (roomOf desk (now (board .entry))) r ⌝ }
 {
-    let number = options_number(desk, board.len(), sizes, rules, c, i);
+    let asking = Asking::Read(Reading::Options { feature: i });
+    let number = checks::number(asking, desk, board.len(), sizes, rules, c);
     if number != 0 {
         return Left {
             number,
@@ -24,7 +27,7 @@ pub fn options(desk: Desk, board: &[u8], sizes: &[u8], rules: &[u16], c: usize, 
         };
     }
     let seats = desk.seats;
-    let mask = seat::mask_of(seats[c], i);
+    let mask = look::mask_of(seats[c], i);
     Left {
         number: 0,
         mask,
@@ -43,13 +46,13 @@ pub fn example<'a>(
     a: usize,
 ) -> &'a [u8]
     ensures bytes { λ r. ⌜ now r
-        ≡ performed (now (sizes .entry)) (now (rules .entry)) desk (now (board .entry)) (example c i a)
-        .answer .bytes ⌝ }
+        ≡ performed (now (sizes .entry)) (now (rules .entry)) desk (now (board .entry))
+        (asks c (Read (Example i a))) .answer .bytes ⌝ }
     ensures place { λ r. ⌜ r .ptr ≡ exampleBegins (board .entry .ptr)
-        (performed (now (sizes .entry)) (now (rules .entry)) desk (now (board .entry)) (example c i a) .answer .number)
-        c i a ⌝ }
+        (performed (now (sizes .entry)) (now (rules .entry)) desk (now (board .entry))
+        (asks c (Read (Example i a))) .answer .number) c i a ⌝ }
 {
-    let number = example_refusal(desk, board.len(), sizes, rules, c, i, a);
+    let number = example_number(desk, board, sizes, rules, c, i, a);
     if number != 0 {
         return &board[..0];
     }
@@ -69,8 +72,12 @@ pub fn example_number(
     a: usize,
 ) -> u8
     ensures { λ r. ⌜ r
-        ≡ performed (now (sizes .entry)) (now (rules .entry)) desk (now (board .entry)) (example c i a)
-        .answer .number ⌝ }
+        ≡ performed (now (sizes .entry)) (now (rules .entry)) desk (now (board .entry))
+        (asks c (Read (Example i a))) .answer .number ⌝ }
 {
-    example_refusal(desk, board.len(), sizes, rules, c, i, a)
+    let asking = Asking::Read(Reading::Example {
+        feature: i,
+        option: a,
+    });
+    checks::number(asking, desk, board.len(), sizes, rules, c)
 }

@@ -8,7 +8,8 @@ ghost use Prim.Native.Nat.{_<_};
 ghost use lib.ListN.{length, getD};
 ghost use Rattle.builds.specs.Catalogue.{catalogueOf};
 ghost use Rattle.builds.specs.Fault.{faultOf, sizesFault};
-ghost use Rattle.search.specs.Fit.{everyBelow, choiceFits, maskFits, emptyAt, placeFits, seatFits, entryFits};
+ghost use Rattle.builds.specs.Lists.{everyBelow};
+ghost use Rattle.search.specs.RecordFits.{choiceFits, maskFits, emptyAt, placeFits, seatFits, entryFits};
 ghost use Rattle.fit.specs.inner.Trial.{restFits, placedFits};
 
 // Whether a record fits a catalogue without a fault. A closed seat is empty, and what is empty fits any sizes.

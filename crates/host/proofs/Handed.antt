@@ -12,10 +12,10 @@ use Rattle.builds.specs.Catalogue.{Catalogue}
 use Rattle.builds.specs.Checks.{when, orElse}
 use Rattle.builds.specs.Fault.{faultOf}
 use Rattle.runs.specs.declared.Desk.{Desk}
-use Rattle.runs.specs.Fit.{deskFits}
+use Rattle.runs.specs.DeskFits.{deskFits}
 use Rattle.runs.specs.Room.{Room}
 use Rattle.runs.specs.Call.{Call, refused}
-use Rattle.runs.specs.Refusal.{refusal, openRefusal}
+use Rattle.runs.specs.RefusalTable.{refusal, openRefusal}
 use Rattle.runs.specs.Perform.{Outcome, perform}
 use Rattle.runs.proofs.Performed.{perform-number, perform-refused}
 use Rattle.host.specs.declared.records.HostDesk.{HostDesk}

@@ -4,7 +4,10 @@ use Prim.Native.Nat.{ℕ}
 use mathlib.Core.Path.{_≡_, sym, ap, _∙_}
 use mathlib.Core.List.{List}
 use Rattle.builds.specs.Catalogue.{Catalogue}
-use Rattle.runs.specs.Call.{Answer, enter, leave, choose, relax, options, example, turns}
+use Rattle.runs.specs.declared.Asking.{Asking}
+use Rattle.runs.specs.declared.Asking.the-variants.{Read}
+use Rattle.runs.specs.declared.Reading.the-variants.{Options, Example}
+use Rattle.runs.specs.Call.{Answer, asks, turns}
 use Rattle.runs.proofs.Settled.{Settled, SettledWithBoard}
 use Rattle.host.specs.declared.records.HostDesk.{HostDesk}
 use Rattle.host.specs.declared.records.HostChanged.{HostChanged}
@@ -60,25 +63,15 @@ module _ (catalogue : Catalogue) (given : HostDesk) (board : List ℕ) where
   turns-settled w = one-turning (throughDoor catalogue (turns w) given board)
 
   module _ (c : ℕ) where
-    pub enter-settled : SettledWithBoard (ChangesTo (throughDoor catalogue (enter c) given board))
-    enter-settled = one-change (throughDoor catalogue (enter c) given board)
+    pub asking-settled : (asking : Asking) → SettledWithBoard (ChangesTo (throughDoor catalogue (asks c asking) given board))
+    asking-settled asking = one-change (throughDoor catalogue (asks c asking) given board)
 
-    pub leave-settled : SettledWithBoard (ChangesTo (throughDoor catalogue (leave c) given board))
-    leave-settled = one-change (throughDoor catalogue (leave c) given board)
+    pub options-settled : (i : ℕ) → Settled (ReadsAs (inside catalogue (asks c (Read (Options i))) given board .answer))
+    options-settled i = one-reading (inside catalogue (asks c (Read (Options i))) given board .answer)
 
-    module _ (i : ℕ) where
-      pub relax-settled : SettledWithBoard (ChangesTo (throughDoor catalogue (relax c i) given board))
-      relax-settled = one-change (throughDoor catalogue (relax c i) given board)
+    module _ (i a : ℕ) where
+      abbrev pub exampleNumber : ℕ
+      exampleNumber = inside catalogue (asks c (Read (Example i a))) given board .answer .number
 
-      pub options-settled : Settled (ReadsAs (inside catalogue (options c i) given board .answer))
-      options-settled = one-reading (inside catalogue (options c i) given board .answer)
-
-      module _ (a : ℕ) where
-        pub choose-settled : SettledWithBoard (ChangesTo (throughDoor catalogue (choose c i a) given board))
-        choose-settled = one-change (throughDoor catalogue (choose c i a) given board)
-
-        abbrev pub exampleNumber : ℕ
-        exampleNumber = inside catalogue (example c i a) given board .answer .number
-
-        pub example-settled : Settled (λ (r : HostExample). r ≡ exampleStands exampleNumber c i a)
-        example-settled = one-place (exampleStands exampleNumber c i a)
+      pub example-settled : Settled (λ (r : HostExample). r ≡ exampleStands exampleNumber c i a)
+      example-settled = one-place (exampleStands exampleNumber c i a)

@@ -2,7 +2,7 @@
 -- place.
 use Prim.Native.Nat.{_<_}
 use mathlib.Core.Path.{_≡_}
-use Rattle.builds.specs.Every.{Every}
+use Rattle.builds.specs.Lists.{Every}
 use Rattle.host.specs.declared.records.HostSeat.{HostSeat}
 use Rattle.host.specs.declared.records.HostDesk.{HostDesk}
 

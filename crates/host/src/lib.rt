@@ -18,7 +18,9 @@ pub use records::HostTurned;
 ghost use mathlib.Core.Path.{_≡_};
 ghost use lib.ListN.{take, drop};
 ghost use Rattle.builds.specs.Catalogue.{catalogueOf};
-ghost use Rattle.runs.specs.Call.{enter, leave, choose, relax, options, example, turns};
+ghost use Rattle.runs.specs.declared.Asking.the-variants.{Enter, Leave, Choose, Relax, Read};
+ghost use Rattle.runs.specs.declared.Reading.the-variants.{Options, Example};
+ghost use Rattle.runs.specs.Call.{asks, turns};
 ghost use Rattle.host.specs.Door.{inside, throughDoor, openedDoor, hostChangedOutcome};
 ghost use Rattle.host.specs.Door.{hostLeftAnswer, hostTurnedOutcome, exampleStands};
 
@@ -44,7 +46,8 @@ pub extern "C" fn nethazel_enter(
     c: usize,
 ) -> HostChanged
     ensures { λ r. ⌜ hostChangedOutcome r (now (board .exit))
-        ≡ throughDoor (catalogueOf (now (sizes .entry)) (now (rules .entry))) (enter c) given (now (board .entry)) ⌝ }
+        ≡ throughDoor (catalogueOf (now (sizes .entry)) (now (rules .entry))) (asks c Enter)
+        given (now (board .entry)) ⌝ }
 {
     let changed = desk::enter(desk_of(given), board, sizes, rules, c);
     changed_back(given, changed)
@@ -59,7 +62,8 @@ pub extern "C" fn nethazel_leave(
     c: usize,
 ) -> HostChanged
     ensures { λ r. ⌜ hostChangedOutcome r (now (board .exit))
-        ≡ throughDoor (catalogueOf (now (sizes .entry)) (now (rules .entry))) (leave c) given (now (board .entry)) ⌝ }
+        ≡ throughDoor (catalogueOf (now (sizes .entry)) (now (rules .entry))) (asks c Leave)
+        given (now (board .entry)) ⌝ }
 {
     let changed = desk::leave(desk_of(given), board, sizes, rules, c);
     changed_back(given, changed)
@@ -76,7 +80,7 @@ pub extern "C" fn nethazel_choose(
     a: usize,
 ) -> HostChanged
     ensures { λ r. ⌜ hostChangedOutcome r (now (board .exit))
-        ≡ throughDoor (catalogueOf (now (sizes .entry)) (now (rules .entry))) (choose c i a)
+        ≡ throughDoor (catalogueOf (now (sizes .entry)) (now (rules .entry))) (asks c (Choose i a))
         given (now (board .entry)) ⌝ }
 {
     let changed = desk::choose(desk_of(given), board, sizes, rules, c, i, a);
@@ -93,7 +97,8 @@ pub extern "C" fn nethazel_relax(
     i: usize,
 ) -> HostChanged
     ensures { λ r. ⌜ hostChangedOutcome r (now (board .exit))
-        ≡ throughDoor (catalogueOf (now (sizes .entry)) (now (rules .entry))) (relax c i) given (now (board .entry)) ⌝ }
+        ≡ throughDoor (catalogueOf (now (sizes .entry)) (now (rules .entry))) (asks c (Relax i))
+        given (now (board .entry)) ⌝ }
 {
     let changed = desk::relax(desk_of(given), board, sizes, rules, c, i);
     changed_back(given, changed)
@@ -109,8 +114,8 @@ pub extern "C" fn nethazel_options(
     i: usize,
 ) -> HostLeft
     ensures { λ r. ⌜ hostLeftAnswer r
-        ≡ inside (catalogueOf (now (sizes .entry)) (now (rules .entry))) (options c i) given (now (board .entry))
-        .answer ⌝ }
+        ≡ inside (catalogueOf (now (sizes .entry)) (now (rules .entry))) (asks c (Read (Options i)))
+        given (now (board .entry)) .answer ⌝ }
 {
     left_back(desk::options(desk_of(given), board, sizes, rules, c, i))
 }
@@ -127,11 +132,11 @@ pub extern "C" fn nethazel_example(
     a: usize,
 ) -> HostExample
     ensures place { λ r. ⌜ r ≡ exampleStands
-        (inside (catalogueOf (now (sizes .entry)) (now (rules .entry))) (example c i a) given (now (board .entry))
-        .answer .number) c i a ⌝ }
+        (inside (catalogueOf (now (sizes .entry)) (now (rules .entry))) (asks c (Read (Example i a)))
+        given (now (board .entry)) .answer .number) c i a ⌝ }
     ensures bytes { λ r. ⌜ take (r .length) (drop (r .from) (now (board .entry)))
-        ≡ inside (catalogueOf (now (sizes .entry)) (now (rules .entry))) (example c i a) given (now (board .entry))
-        .answer .bytes ⌝ }
+        ≡ inside (catalogueOf (now (sizes .entry)) (now (rules .entry))) (asks c (Read (Example i a)))
+        given (now (board .entry)) .answer .bytes ⌝ }
 {
     let number = desk::example_number(desk_of(given), board, sizes, rules, c, i, a);
     if number != 0 {

@@ -5,10 +5,10 @@ use mathlib.Core.Path.{_≡_}
 use mathlib.Core.Bool.{true}
 use Rattle.builds.specs.Catalogue.{Catalogue}
 use Rattle.runs.specs.Room.{Room, seatAt}
-use Rattle.runs.specs.Fit.{deskFits}
+use Rattle.runs.specs.DeskFits.{deskFits}
 use Rattle.search.proofs.ClinicFits.{Sixteen}
 use Rattle.runs.proofs.Sound.{Sound, fits-sound}
-use Rattle.runs.proofs.OthersStay.{call-stays, turn-steps, turn-stays, turn-next}
+use Rattle.runs.proofs.OthersStay.{asking-stays, turn-steps, turn-stays, turn-next}
 use Rattle.runs.proofs.TurnsAdded.{turns-added}
 use Rattle.promises.specs.Frame.{Whole, Frame}
 
@@ -34,8 +34,8 @@ sound-whole sound = record {
 
 pub frame : Frame
 frame = record {
-  calls-stay = λ catalogue call room whole named d l other.
-      call-stays catalogue room (whole .eight) (whole .board-length) d call named other;
+  calls-stay = λ catalogue c asking room whole d l other.
+      asking-stays catalogue room (whole .eight) (whole .board-length) c asking d other;
   turns-stay = λ catalogue room whole fault fits c found.
       let sound = whole-sound room whole catalogue fits in (
         turn-steps catalogue fault room sound c found,

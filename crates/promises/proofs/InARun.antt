@@ -26,7 +26,7 @@ use Rattle.runs.specs.Room.{clinicAt}
 use Rattle.promises.specs.Moment.{moment}
 use Rattle.promises.specs.InARun.{EveryRun}
 use Rattle.promises.proofs.SoundMoments.{opened-faultless, sound-moment}
-use Rattle.promises.proofs.Lasting.{Lasting, lasts}
+use Rattle.promises.proofs.AtEveryMoment.{Invariant, at-every-moment}
 use Rattle.promises.proofs.OptionsLeft.{mask-answered}
 use Rattle.promises.proofs.KeptChoices.{Kept, no-choice, by-build, under-others, kept-fit}
 use Rattle.promises.proofs.Reached.{
@@ -77,14 +77,12 @@ module _ (catalogue : Catalogue) (fault : faultOf catalogue ≡ 0) where
         go (by-build kept k) = left kept k
 
   -- at every moment a clinic is blank or shows an option
-  blank-or-shows-lasts : Lasting catalogue BlankOrShows
+  blank-or-shows-lasts : Invariant catalogue BlankOrShows
   unfolding posted
   blank-or-shows-lasts = record {
     closed = inl (refl, refl);
     stepped = blank-or-shows catalogue fault;
-    entered = λ clinic fits before closed. inl (refl, refl);
-    chosen = λ clinic fits before ready i a l left. inl (refl, refl);
-    relaxed = λ clinic fits before ready i l. inl (refl, refl);
+    posted = λ clinic fits before asking rows choices e. inl (refl, refl);
   }
 
   none-shown : (clinic : Clinic) → clinic .seat .masks ≡ noneLeft → Shows clinic → ⊥
@@ -121,5 +119,5 @@ every-run catalogue board opened calls c seat-below =
           rw (shown ready i feature) (some-shown catalogue fault clinic (at-end ready) i feature build b);
       none-left = λ no-build.
           always-blank catalogue fault no-build clinic (reached-at catalogue board opened calls c seat-below)
-          (lasts catalogue board opened BlankOrShows (blank-or-shows-lasts catalogue fault) calls c seat-below);
+          (at-every-moment catalogue board opened BlankOrShows (blank-or-shows-lasts catalogue fault) calls c seat-below);
     }

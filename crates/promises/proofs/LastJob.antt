@@ -1,24 +1,24 @@
 -- In a run number 20 is never given, for every moment is sound and the rows after it have other numbers; after a refused
 -- opening no seat opens; and a ready seat stands at the end of its job.
 use Prim.Native.Nat.{ℕ, zero, suc}
-use mathlib.Core.Path.{_≡_, refl, sym, _∙_}
+use mathlib.Core.Path.{_≡_, sym, _∙_, subst}
 use mathlib.Core.Bool.{Bool, true, false, not, _&&_}
 use mathlib.Core.List.{List, [], _∷_}
 use native.Mathlib.Omega.{arith}
-use lib.ListN.{length}
+use lib.ListN.{length, getD}
 use lib.Dec.{ltb}
-use Rattle.builds.specs.Catalogue.{Catalogue, sizeOf}
-use Rattle.builds.specs.Every.{Every, none, also}
+use Rattle.builds.specs.Catalogue.{Catalogue}
+use Rattle.builds.specs.Lists.{Every, none, also, member}
 use Rattle.builds.specs.Checks.{when, first}
-use Rattle.builds.specs.Fault.{member}
 use Rattle.search.specs.declared.Seat.{Seat}
 use Rattle.search.specs.Look.{isClosed, isAtWork, hasChoice, isLeft}
 use Rattle.search.specs.Count.{jobSteps}
 use Rattle.search.proofs.ReadyJob.{job-ready-after}
-use Rattle.runs.specs.Room.{Room}
-use Rattle.runs.specs.Call.{Call, seatOf, featureOf, optionOf}
-use Rattle.runs.specs.Refusal.{rowsFor, row}
+use Rattle.runs.specs.Room.{Room, seatAt}
+use Rattle.runs.specs.Call.{Call, asks, turns}
+use Rattle.runs.specs.RefusalTable.{row, seatRows, rowsOf}
 use Rattle.runs.specs.Perform.{perform}
+use Rattle.runs.proofs.AcceptedCalls.{asked-rows}
 use Rattle.runs.proofs.ChecksPassed.{checks-passed}
 use Rattle.runs.proofs.Performed.{perform-number}
 use Rattle.promises.specs.Moment.{moment, Opened, seatIn}
@@ -39,36 +39,35 @@ first-of [] none e = omega (arith, e)
 first-of (zero ∷ rows) (also h others) e = first-of rows others e
 first-of (suc number ∷ rows) (also h others) e = h e
 
--- the rows from 30 on, whatever their conditions
-rows-from-30 : (call : Call) (t₀ t₁ t₂ t₃ t₄ t₅ t₆ t₇ t₈ : Bool)
-    → Not20 (first (row call 30 t₀ ∷ row call 31 t₁ ∷ row call 32 t₂ ∷ row call 33 t₃ ∷ row call 34 t₄ ∷ row call 35 t₅
-    ∷ row call 36 t₆ ∷ row call 37 t₇ ∷ row call 38 t₈ ∷ []))
-rows-from-30 call t₀ t₁ t₂ t₃ t₄ t₅ t₆ t₇ t₈ =
-    let given : ℕ → Bool → Bool = λ number t. member number (rowsFor call) && t in
-    first-of (row call 30 t₀ ∷ row call 31 t₁ ∷ row call 32 t₂ ∷ row call 33 t₃ ∷ row call 34 t₄ ∷ row call 35 t₅
-    ∷ row call 36 t₆ ∷ row call 37 t₇ ∷ row call 38 t₈ ∷ [])
-    (also (other-row (given 30 t₀) 30 (λ z. omega (arith, z)))
-    (also (other-row (given 31 t₁) 31 (λ z. omega (arith, z)))
-    (also (other-row (given 32 t₂) 32 (λ z. omega (arith, z)))
-    (also (other-row (given 33 t₃) 33 (λ z. omega (arith, z)))
-    (also (other-row (given 34 t₄) 34 (λ z. omega (arith, z)))
-    (also (other-row (given 35 t₅) 35 (λ z. omega (arith, z)))
-    (also (other-row (given 36 t₆) 36 (λ z. omega (arith, z)))
-    (also (other-row (given 37 t₇) 37 (λ z. omega (arith, z)))
-    (also (other-row (given 38 t₈) 38 (λ z. omega (arith, z))) none)))))))))
-
-module _ (catalogue : Catalogue) (board : List ℕ) (opened : Opened catalogue board) (calls : List Call) (call : Call) where
+module _ (catalogue : Catalogue) (board : List ℕ) (opened : Opened catalogue board) (calls : List Call) where
   abbrev here : Room
   here = moment catalogue board calls
 
-  abbrev seat : Seat
-  seat = seatIn here (seatOf call)
+  -- the rows from 31 on, whatever is listed, named and found
+  seat-rows : (listed : List ℕ) (seat : Seat) (i a : ℕ) → Every Not20 (seatRows listed (catalogue .sizes) seat i a)
+  seat-rows listed seat i a =
+      also (listed-row 31 (isClosed (seat .state)) (λ z. omega (arith, z)))
+      (also (listed-row 32 (not (isClosed (seat .state))) (λ z. omega (arith, z)))
+      (also (listed-row 33 (isAtWork (seat .state)) (λ z. omega (arith, z)))
+      (also (listed-row 34 (not (ltb i (length (catalogue .sizes)))) (λ z. omega (arith, z)))
+      (also (listed-row 35 (not (ltb a (getD (catalogue .sizes) i 0))) (λ z. omega (arith, z)))
+      (also (listed-row 36 (hasChoice seat i) (λ z. omega (arith, z)))
+      (also (listed-row 37 (not (isLeft seat i a)) (λ z. omega (arith, z)))
+      (also (listed-row 38 (not (hasChoice seat i)) (λ z. omega (arith, z))) none)))))))
+    where
+      listed-row : (number : ℕ) (condition : Bool) → Not20 number → Not20 (row listed number condition)
+      listed-row number condition = other-row (member number listed && condition) number
 
-  never-20 : Not20 (perform catalogue call here .answer .number)
-  never-20 e =
-      rows-from-30 call (ltb 7 (seatOf call)) (isClosed (seat .state)) (not (isClosed (seat .state))) (isAtWork (seat .state))
-      (not (ltb (featureOf call) (length (catalogue .sizes)))) (not (ltb (optionOf call) (sizeOf catalogue (featureOf call))))
-      (hasChoice seat (featureOf call)) (not (isLeft seat (featureOf call) (optionOf call))) (not (hasChoice seat (featureOf call)))
+  rows-from-30 : (call : Call) → Every Not20 (rowsOf (catalogue .sizes) call (here .desk))
+  rows-from-30 (asks c asking) =
+      let rows = asked-rows (catalogue .sizes) (seatAt (here .desk) c) asking in
+      also (other-row (ltb 7 c) 30 (λ z. omega (arith, z)))
+      (subst (Every Not20) (sym (rows .is-seat-rows)) (seat-rows (rows .listed) (seatAt (here .desk) c) (rows .feature) (rows .option)))
+  rows-from-30 (turns w) = none
+
+  never-20 : (call : Call) → Not20 (perform catalogue call here .answer .number)
+  never-20 call e =
+      first-of (rowsOf (catalogue .sizes) call (here .desk)) (rows-from-30 call)
       (sym (checks-passed catalogue (opened-faultless catalogue board opened) call here (sound-moment catalogue board opened calls))
       ∙ sym (perform-number catalogue call here) ∙ e)
 

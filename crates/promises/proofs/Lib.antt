@@ -1,6 +1,5 @@
 -- Refusals, OptionsLeft, Waiting, SearchState, TwoRuns, InARun, LastJob, Frame, Posting, TurnsAnswered: the statements of those names in specs/, proved.
 -- SoundMoments: every moment of a run is sound. RefusedOpening: after a refused opening no seat ever opens.
--- OnTheTrolley, RunsOnTheTrolley: each statement says something of the trolley.
 pub mod Refusals
 pub mod SoundMoments
 pub mod RefusedOpening
@@ -10,7 +9,7 @@ pub mod SearchState
 pub mod Pace
 pub mod Waiting
 pub mod TwoRuns
-pub mod Lasting
+pub mod AtEveryMoment
 pub mod KeptChoices
 pub mod Reached
 pub mod OptionsLeft
@@ -18,5 +17,3 @@ pub mod InARun
 pub mod LastJob
 pub mod Posting
 pub mod TurnsAnswered
-pub mod OnTheTrolley
-pub mod RunsOnTheTrolley

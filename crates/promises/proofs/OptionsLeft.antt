@@ -11,7 +11,8 @@ use lib.ListN.{length, getD}
 use borrow.Author.Tests.{lt-ltb, le-ltb}
 use Rattle.builds.specs.Catalogue.{Catalogue, sizeOf}
 use Rattle.builds.specs.Checks.{when, first}
-use Rattle.builds.specs.Fault.{faultOf, member}
+use Rattle.builds.specs.Lists.{member}
+use Rattle.builds.specs.Fault.{faultOf}
 use Rattle.builds.specs.Rule.{optionAt}
 use Rattle.builds.specs.Gic.{Gic}
 use Rattle.search.specs.declared.State.the-variants.{Ready}
@@ -21,9 +22,11 @@ use Rattle.search.specs.Clinic.{Clinic, exampleIn}
 use Rattle.search.proofs.SearchPremises.{ChoicesFit}
 use Rattle.search.proofs.PlaceBounds.{few-features, size-within}
 use Rattle.search.proofs.ReadyJob as ready-job
+use Rattle.runs.specs.declared.Asking.the-variants.{Read}
+use Rattle.runs.specs.declared.Reading.the-variants.{Options, Example}
 use Rattle.runs.specs.Room.{Room, shareAt, clinicAt}
-use Rattle.runs.specs.Call.{Call, options, example, refused, Answer}
-use Rattle.runs.specs.Refusal.{refusal}
+use Rattle.runs.specs.Call.{Call, asks, refused, Answer}
+use Rattle.runs.specs.RefusalTable.{refusal}
 use Rattle.runs.specs.Perform.{Outcome, optionsAnswer, exampleAnswer, done, perform, opening}
 use Rattle.runs.proofs.Sound.{Sound}
 use Rattle.runs.proofs.ChecksPassed.{checks-passed}
@@ -54,23 +57,23 @@ module _
     (i : ℕ)
     (feature : i < length (catalogue .sizes))
   where
-    options-accepted : refusal catalogue (options c i) room ≡ 0
+    options-accepted : refusal catalogue (asks c (Read (Options i))) room ≡ 0
     unfolding member
     options-accepted =
-        checks-passed catalogue fault (options c i) room sound
+        checks-passed catalogue fault (asks c (Read (Options i))) room sound
         ∙ rw (le-ltb 7 c (omega arith), ready, lt-ltb i (length (catalogue .sizes)) feature) refl
 
     -- what the options call answers is the mask of the seat
-    pub mask-answered : perform catalogue (options c i) room .answer .mask ≡ getD (seatIn room c .masks) i 0
+    pub mask-answered : perform catalogue (asks c (Read (Options i))) room .answer .mask ≡ getD (seatIn room c .masks) i 0
     unfolding done
-    mask-answered = ap (λ (o : Outcome). o .answer .mask) (perform-accepted catalogue (options c i) room options-accepted)
+    mask-answered = ap (λ (o : Outcome). o .answer .mask) (perform-accepted catalogue (asks c (Read (Options i))) room options-accepted)
 
     module _ (a : ℕ) (option : a < sizeOf catalogue i) where
       -- accepted where the option is left, and refused by row 37 where it isn't
-      example-number : (left : Bool) → isLeft (seatIn room c) i a ≡ left → refusal catalogue (example c i a) room ≡ when (not left) 37
+      example-number : (left : Bool) → isLeft (seatIn room c) i a ≡ left → refusal catalogue (asks c (Read (Example i a))) room ≡ when (not left) 37
       unfolding member
       example-number left shown-so =
-          checks-passed catalogue fault (example c i a) room sound
+          checks-passed catalogue fault (asks c (Read (Example i a))) room sound
           ∙ rw (
             le-ltb 7 c (omega arith),
             ready,
@@ -98,7 +101,7 @@ module _
       shown = record {
         mask = ready-job.maskAt catalogue choices i;
         options-answer =
-            ap (λ (o : Outcome). o .answer) (perform-accepted catalogue (options c i) room options-accepted)
+            ap (λ (o : Outcome). o .answer) (perform-accepted catalogue (asks c (Read (Options i))) room options-accepted)
             ∙ ap optionsAnswer mask-is;
         left-exactly = λ a. ready-job.left-exactly catalogue fault choices fit i a feature;
         first-beside = λ a set.
@@ -106,15 +109,15 @@ module _
             let build = least .1 .one-of-them in
             let option : a < sizeOf catalogue i = rw (build .contains) at (build .is-build .within i feature) in
             let left : isLeft (seatIn room c) i a ≡ true = rw mask-is set in
-            let answered : perform catalogue (example c i a) room .answer ≡ exampleAnswer (exampleIn (shareAt (room .board) c) i a) =
-            ap (λ (o : Outcome). o .answer) (perform-accepted catalogue (example c i a) room (example-number a option true left)) in
+            let answered : perform catalogue (asks c (Read (Example i a))) room .answer ≡ exampleAnswer (exampleIn (shareAt (room .board) c) i a) =
+            ap (λ (o : Outcome). o .answer) (perform-accepted catalogue (asks c (Read (Example i a))) room (example-number a option true left)) in
             (least .0, least .1, answered ∙ ap exampleAnswer (example-is a ∙ least .2));
         none-beside = λ a option clear.
             let not-left : isLeft (seatIn room c) i a ≡ false = rw mask-is (not-set _ clear) in
-            let number : refusal catalogue (example c i a) room ≡ 37 = example-number a option false not-left in
-            let answered : perform catalogue (example c i a) room .answer ≡ refused (refusal catalogue (example c i a) room) =
+            let number : refusal catalogue (asks c (Read (Example i a))) room ≡ 37 = example-number a option false not-left in
+            let answered : perform catalogue (asks c (Read (Example i a))) room .answer ≡ refused (refusal catalogue (asks c (Read (Example i a))) room) =
             ap (λ (o : Outcome). o .answer)
-            (perform-refused catalogue (example c i a) room (λ (e : refusal catalogue (example c i a) room ≡ 0). omega arith)) in (
+            (perform-refused catalogue (asks c (Read (Example i a))) room (λ (e : refusal catalogue (asks c (Read (Example i a))) room ≡ 0). omega arith)) in (
               answered ∙ ap refused number,
               example-is a
                   ∙ ready-job.none-beside catalogue fault choices fit i a (omega (arith, few-features catalogue fault))
@@ -146,10 +149,10 @@ module _
     here = moment catalogue board calls
 
     gic-exactly : (i a : ℕ) → i < length (catalogue .sizes)
-        → (hasBit (perform catalogue (options c i) here .answer .mask) a ≡ true) ↔ Gic catalogue (seatIn here c .choices) i a
+        → (hasBit (perform catalogue (asks c (Read (Options i))) here .answer .mask) a ≡ true) ↔ Gic catalogue (seatIn here c .choices) i a
     gic-exactly i a feature =
         let seen = options-left catalogue board calls c seat-below ready i feature in
-        let answered : perform catalogue (options c i) here .answer .mask ≡ seen .mask =
+        let answered : perform catalogue (asks c (Read (Options i))) here .answer .mask ≡ seen .mask =
         ap (λ (answer : Answer). answer .mask) (seen .options-answer) in
         rw answered (seen .left-exactly a)
 

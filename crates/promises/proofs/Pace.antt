@@ -5,50 +5,49 @@ use Prim.Native.Nat.{ℕ, zero, suc, _+_, _*_, _≤_, _<_}
 use mathlib.Core.Path.{_≡_, refl, sym, ap, _∙_, subst}
 use mathlib.Core.Bool.{Bool, true, false, cond}
 use mathlib.Core.Option.{some}
-use mathlib.Core.List.{List}
+use mathlib.Core.List.{List, map}
 use native.Mathlib.Nat.{add-zero, add-assoc}
 use native.Mathlib.Omega.{arith}
 use lib.Dec.{eqb}
 use borrow.Author.Tests.{eqb-true, eqb-false}
-use Rattle.builds.specs.Every.{Every}
+use Rattle.builds.specs.Lists.{Every, sum}
 use Rattle.builds.specs.Catalogue.{Catalogue}
 use Rattle.builds.specs.Fault.{faultOf}
 use Rattle.search.specs.Clinic.{Clinic}
-use Rattle.search.specs.Step.{steps, posted, ReadyAfter}
+use Rattle.search.specs.Step.{steps, ReadyAfter}
 use Rattle.runs.specs.Room.{Room, clinicAt}
-use Rattle.runs.specs.Call.{Call, isOf}
+use Rattle.runs.specs.Call.{Call, asks, turns, isOf}
 use Rattle.runs.specs.Turn.{isAtWork, served, is, turn, afterTurns, seatAfter}
 use Rattle.runs.specs.Perform.{perform}
-use Rattle.runs.specs.Run.{job, afterCalls, turnsAsked, allTurnsAsked}
+use Rattle.runs.specs.Run.{job, afterCalls, turnsAsked}
 use Rattle.runs.proofs.Sound.{Sound, turn-sound}
 use Rattle.runs.proofs.SoundRuns.{call-sound}
 use Rattle.runs.proofs.ChecksPassed.{turns-accepted}
-use Rattle.runs.proofs.OthersStay.{call-stays, turn-next}
+use Rattle.runs.proofs.OthersStay.{asking-stays, turn-next}
 use Rattle.runs.proofs.TurnsAdded.{turns-performed}
-use Rattle.runs.proofs.CallKinds.{Kind, of-turns, of-a-seat, kind}
 use Rattle.runs.proofs.RingAhead.{ahead, full-round, served-ahead}
 use Rattle.promises.specs.SearchState.{Stands}
 use Rattle.promises.proofs.Standing.{in-the-search, turn-stands}
 
 -- seat c, so many turns asked for after a job of K steps was posted for it
-pub record Waited (catalogue : Catalogue) (choices : List ℕ) (K c asked : ℕ) (room : Room) : Type 0 where
+pub record Waited (catalogue : Catalogue) (start : Clinic) (K c asked : ℕ) (room : Room) : Type 0 where
   pub given : ℕ
-  pub stands : Stands catalogue (clinicAt room c) (job choices given)
+  pub stands : Stands catalogue (clinicAt room c) (job start given)
   pub in-pace : given < K → asked + ahead (room .desk .next) c ≤ 8 * given + 7
 
 module _
     (catalogue : Catalogue)
     (fault : faultOf catalogue ≡ 0)
-    (choices : List ℕ)
+    (start : Clinic)
     (K : ℕ)
-    (takes : ReadyAfter catalogue (posted (catalogue .sizes) choices) K)
+    (takes : ReadyAfter catalogue start K)
     (c : ℕ)
     (below : c < 8)
   where
     abbrev pub WaitedFor : ℕ → Room → Type 0
-    WaitedFor asked room = Waited catalogue choices K c asked room
+    WaitedFor asked room = Waited catalogue start K c asked room
 
-    still-at-work : (clinic : Clinic) (given : ℕ) → clinic ≡ steps catalogue given (posted (catalogue .sizes) choices) → given < K
+    still-at-work : (clinic : Clinic) (given : ℕ) → clinic ≡ steps catalogue given start → given < K
         → isAtWork (clinic .seat .state) ≡ true
     still-at-work clinic given same l =
         let work = takes .at-work given l in
@@ -58,7 +57,7 @@ module _
     turn-waited : (asked : ℕ) (room : Room) → Sound catalogue room → WaitedFor asked room → WaitedFor (asked + 1) (turn catalogue room)
     turn-waited asked room sound waited = record {
       given = waited .given + cond (is c (served (room .desk))) 1 0;
-      stands = turn-stands catalogue fault c room sound (job choices (waited .given)) (waited .stands);
+      stands = turn-stands catalogue fault c room sound (job start (waited .given)) (waited .stands);
       in-pace = λ (l : waited .given + cond (is c (served (room .desk))) 1 0 < K). pace l;
     }
       where
@@ -94,25 +93,25 @@ module _
         (turn-waited asked room sound waited))
 
     -- a call that doesn't name seat c
-    call-waited : {call : Call} → Kind call → isOf c call ≡ false → (asked : ℕ) (room : Room) → Sound catalogue room
+    call-waited : (call : Call) → isOf c call ≡ false → (asked : ℕ) (room : Room) → Sound catalogue room
         → WaitedFor asked room → WaitedFor (asked + turnsAsked call) (perform catalogue call room .room)
-    call-waited (of-turns w) other asked room sound waited =
+    call-waited (turns w) other asked room sound waited =
         subst (WaitedFor (asked + w)) (sym (turns-performed catalogue room w (turns-accepted catalogue fault room sound w)))
         (turns-waited w asked room sound waited)
-    call-waited {call} (of-a-seat named asks-none) other asked room sound waited =
-        let stays = call-stays catalogue room (sound .eight) (sound .board-length) c call named other in
+    call-waited (asks d asking) other asked room sound waited =
+        let stays = asking-stays catalogue room (sound .eight) (sound .board-length) d asking c (eqb-false c d other) in
         record {
           given = waited .given;
           stands = rw (stays .0) (waited .stands);
-          in-pace = λ (l : waited .given < K). rw (stays .1, asks-none, add-zero asked) (waited .in-pace l);
+          in-pace = λ (l : waited .given < K). rw (stays .1, add-zero asked) (waited .in-pace l);
         }
 
     pub calls-waited : {calls : List Call} → Every (λ (call : Call). isOf c call ≡ false) calls → (asked : ℕ) (room : Room)
-        → Sound catalogue room → WaitedFor asked room → WaitedFor (asked + allTurnsAsked calls) (afterCalls catalogue calls room)
-    unfolding afterCalls allTurnsAsked
+        → Sound catalogue room → WaitedFor asked room → WaitedFor (asked + sum (map turnsAsked calls)) (afterCalls catalogue calls room)
+    unfolding afterCalls sum
     calls-waited Every.none asked room sound waited = subst (λ (n : ℕ). WaitedFor n room) (sym (add-zero asked)) waited
     calls-waited (Every.also {x = call} {xs = calls} other others) asked room sound waited =
         subst (λ (n : ℕ). WaitedFor n (afterCalls catalogue calls (perform catalogue call room .room)))
-        (add-assoc asked (turnsAsked call) (allTurnsAsked calls))
+        (add-assoc asked (turnsAsked call) (sum (map turnsAsked calls)))
         (calls-waited others (asked + turnsAsked call) (perform catalogue call room .room)
-        (call-sound catalogue fault room sound call) (call-waited (kind call) other asked room sound waited))
+        (call-sound catalogue fault room sound call) (call-waited call other asked room sound waited))

@@ -2,35 +2,40 @@
 -- keeps, if there is any choice: choose takes only an option that a ready seat shows as left, and so one that some build
 -- under the choices contains. A ready seat stands at the end of its job, for more steps change nothing.
 use Prim.Native.Nat.{ℕ, _+_, _<_}
-use mathlib.Core.Path.{_≡_, refl, sym, ap, _∙_}
-use mathlib.Core.Bool.{Bool, true, false}
+use mathlib.Core.Path.{_≡_, refl, sym, ap, _∙_, subst}
+use mathlib.Core.Bool.{true}
 use mathlib.Core.List.{List}
 use native.Mathlib.Nat.{add-comm}
 use native.Mathlib.Omega.{arith}
-use lib.ListN.{length, getD, set, List·getD-eq-default}
-use lib.Dec.{ltb}
-use borrow.Author.Tests.{ltb-true, ltb-false}
+use lib.ListN.{length, getD, set}
 use Rattle.builds.specs.Catalogue.{Catalogue}
+use Rattle.builds.specs.Checks.{first}
+use Rattle.builds.specs.Lists.{member}
 use Rattle.builds.specs.Fault.{faultOf}
 use Rattle.builds.proofs.Faultless.{fault-zero}
+use Rattle.builds.proofs.Padded.{nothing-there}
 use Rattle.search.specs.declared.State.the-variants.{Closed, Ready}
 use Rattle.search.specs.Bits.{hasBit}
 use Rattle.search.specs.Look.{isLeft}
 use Rattle.search.specs.Clinic.{Clinic, closedClinic}
 use Rattle.search.specs.Step.{step, steps, posted}
 use Rattle.search.specs.Count.{jobSteps}
-use Rattle.search.proofs.Fits.{seat-fits}
 use Rattle.search.proofs.ClinicFits.{ClinicFits}
 use Rattle.search.proofs.StepsAdded.{steps-added, closed-stays}
 use Rattle.search.proofs.JobSteps.{job-steps, job-choices}
 use Rattle.search.proofs.ReadyOnce.{ready-stays}
 use Rattle.search.proofs.ReadyJob.{ended, maskAt, job-ready-after, left-exactly}
+use Rattle.runs.specs.declared.Asking.{Asking}
+use Rattle.runs.specs.declared.Asking.the-variants.{Enter, Leave, Choose, Relax, Read}
 use Rattle.runs.specs.Room.{clinicAt}
 use Rattle.runs.specs.Call.{Call}
+use Rattle.runs.specs.RefusalTable.{askedRows}
+use Rattle.runs.specs.Perform.{Kind, posts, leaves, reads, kindOf}
+use Rattle.runs.proofs.AcceptedCalls.{choose-passed, relax-passed}
 use Rattle.promises.specs.Moment.{moment, Opened}
 use Rattle.promises.proofs.SoundMoments.{opened-faultless}
 use Rattle.promises.proofs.KeptChoices.{Kept, no-choice, by-build, kept-fit, build-set, kept-dropped}
-use Rattle.promises.proofs.Lasting.{Lasting, lasts}
+use Rattle.promises.proofs.AtEveryMoment.{Invariant, at-every-moment, is-ready}
 
 pub data Reached (catalogue : Catalogue) (clinic : Clinic) : Type 0 where
   blank : clinic ≡ closedClinic → Reached catalogue clinic
@@ -85,14 +90,6 @@ module _ (catalogue : Catalogue) (fault : faultOf catalogue ≡ 0) where
       searching choices kept (n + 1) (ap (step catalogue) e ∙ sym (steps-added catalogue n 1 (start choices)))
 
   module _ (clinic : Clinic) (fits : ClinicFits catalogue clinic) where
-    closed-no-choice : clinic .seat .state ≡ Closed → (f : ℕ) → getD (clinic .seat .choices) f 255 ≡ 255
-    closed-no-choice closed f = go (ltb f 16) refl
-      where
-        go : (t : Bool) → ltb f 16 ≡ t → getD (clinic .seat .choices) f 255 ≡ 255
-        go true h = seat-fits catalogue (clinic .seat) (fits .fits) .state-fits .closed-empty closed f (ltb-true f 16 h) .0
-        go false h =
-            List·getD-eq-default (clinic .seat .choices) 255 (omega (arith, fits .all-choices, ltb-false f 16 h))
-
     has-place : (i : ℕ) → i < length (catalogue .sizes) → i < length (clinic .seat .choices)
     has-place i l = omega (arith, fits .all-choices, fault-zero catalogue fault .few-features)
 
@@ -105,17 +102,34 @@ module _ (catalogue : Catalogue) (fault : faultOf catalogue ≡ 0) where
         by-build (some-build .0)
         (build-set catalogue choices i (has-place i l) (some-build .0) (some-build .1 .is-build) a (λ chosen. some-build .1 .contains))
 
-  reached-lasts : Lasting catalogue (Reached catalogue)
+  -- the choices that an asking of some kind posts a job under, if it posts one
+  abbrev PostsKept : Kind → Type 0
+  PostsKept (posts choices) = Kept catalogue choices
+  PostsKept leaves = Unit {0}
+  PostsKept (reads reading) = Unit {0}
+
+  posts-kept : (clinic : Clinic) → ClinicFits catalogue clinic → Reached catalogue clinic
+      → (asking : Asking) → first (askedRows (catalogue .sizes) (clinic .seat) asking) ≡ 0
+      → PostsKept (kindOf asking (clinic .seat .choices))
+  unfolding member
+  posts-kept clinic fits reached Enter rows = no-choice (λ f. nothing-there 16 f)
+  posts-kept clinic fits reached Leave rows = tt
+  posts-kept clinic fits reached (Choose i a) rows =
+      let passed = choose-passed (catalogue .sizes) (clinic .seat) rows in
+      chosen-kept clinic fits (ready-ended clinic reached (is-ready _ (passed .seat-open refl) (passed .not-at-work refl))) i a
+      (passed .feature-below refl) (passed .option-left refl)
+  posts-kept clinic fits reached (Relax i) rows =
+      let passed = relax-passed (catalogue .sizes) (clinic .seat) rows in
+      kept-dropped catalogue (clinic .seat .choices) i (has-place clinic fits i (passed .feature-below refl))
+      (ready-ended clinic reached (is-ready _ (passed .seat-open refl) (passed .not-at-work refl)) .choices-kept)
+  posts-kept clinic fits reached (Read reading) rows = tt
+
+  reached-lasts : Invariant catalogue (Reached catalogue)
   reached-lasts = record {
     closed = blank refl;
     stepped = λ clinic fits reached. step-reached clinic reached;
-    entered = λ clinic fits reached closed.
-        just-posted (clinic .seat .choices) (no-choice (closed-no-choice clinic fits closed));
-    chosen = λ clinic fits reached ready i a l left.
-        just-posted (set (clinic .seat .choices) i a) (chosen-kept clinic fits (ready-ended clinic reached ready) i a l left);
-    relaxed = λ clinic fits reached ready i l.
-        just-posted (set (clinic .seat .choices) i 255)
-        (kept-dropped catalogue (clinic .seat .choices) i (has-place clinic fits i l) (ready-ended clinic reached ready .choices-kept));
+    posted = λ clinic fits reached asking rows choices e.
+        just-posted choices (subst PostsKept e (posts-kept clinic fits reached asking rows));
   }
 
 module _ (catalogue : Catalogue) (board : List ℕ) (opened : Opened catalogue board) (calls : List Call) (c : ℕ) (l : c < 8) where
@@ -124,7 +138,7 @@ module _ (catalogue : Catalogue) (board : List ℕ) (opened : Opened catalogue b
 
   pub reached-at : Reached catalogue here
   reached-at =
-      lasts catalogue board opened (Reached catalogue) (reached-lasts catalogue (opened-faultless catalogue board opened)) calls c l
+      at-every-moment catalogue board opened (Reached catalogue) (reached-lasts catalogue (opened-faultless catalogue board opened)) calls c l
 
   pub ended-at : here .seat .state ≡ Ready → Ended catalogue here
   ended-at = ready-ended catalogue (opened-faultless catalogue board opened) here reached-at

@@ -8,11 +8,10 @@ use native.Mathlib.Omega.{arith}
 use Rattle.builds.specs.Checks.{orElse, first}
 use Rattle.builds.proofs.Format.{accepted-iff}
 use Rattle.runs.specs.Room.{Room, freshDesk}
-use Rattle.runs.specs.Call.{seatOf, refused}
-use Rattle.runs.specs.Refusal.{table, openTable, refusal, openRefusal}
+use Rattle.runs.specs.Call.{refused}
+use Rattle.runs.specs.RefusalTable.{table, openTable, refusal, openRefusal}
 use Rattle.runs.specs.Perform.{Outcome, perform, opening}
 use Rattle.runs.proofs.Performed.{perform-number, perform-refused, opening-number, opening-refused}
-use Rattle.promises.specs.Moment.{seatIn}
 use Rattle.promises.specs.Refusals.{Gives, none, this, next, Refusals}
 
 first-given : (rows : List ℕ) → Gives rows (first rows)
@@ -49,7 +48,7 @@ pub refusals : Refusals
 unfolding refusal openRefusal
 refusals = record {
   by-the-table = λ catalogue call room r.
-      by-rows (table catalogue call room (seatIn room (seatOf call))) (perform catalogue call room .answer .number) r
+      by-rows (table catalogue call room) (perform catalogue call room .answer .number) r
       (perform-number catalogue call room);
   changes-nothing = λ catalogue call room r.
       nothing-done (refusal catalogue call room) (perform catalogue call room .answer .number) r room

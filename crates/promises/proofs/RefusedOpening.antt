@@ -11,13 +11,12 @@ use Rattle.builds.specs.Catalogue.{Catalogue}
 use Rattle.builds.specs.Checks.{when, first}
 use Rattle.builds.specs.Fault.{faultOf}
 use Rattle.search.specs.declared.State.the-variants.{Closed, Ready}
-use Rattle.search.specs.Clinic.{closedSeat}
+use Rattle.search.specs.Clinic.{closedSeat, noSeat}
 use Rattle.runs.specs.Room.{Room, freshDesk}
-use Rattle.runs.specs.Call.{Call, seatOf}
-use Rattle.runs.specs.Refusal.{table, refusal, openRefusal}
+use Rattle.runs.specs.Call.{Call}
+use Rattle.runs.specs.RefusalTable.{table, refusal, openRefusal}
 use Rattle.runs.specs.Perform.{Outcome, perform, opening}
 use Rattle.runs.specs.Run.{afterCalls}
-use Rattle.search.specs.Clinic.{noSeat}
 use Rattle.runs.proofs.Performed.{perform-number, perform-refused, opening-number, opening-refused}
 use Rattle.promises.specs.Moment.{moment, Opened, seatIn}
 
@@ -38,7 +37,7 @@ module _ (catalogue : Catalogue) where
   unfolding refusal openRefusal
   same-number call room h =
       two-rows (when (not (eqb (length (room .board)) 32768)) 1) (faultOf catalogue)
-      (drop 2 (table catalogue call room (seatIn room (seatOf call)))) h
+      (drop 2 (table catalogue call room)) h
 
   refused-call : (call : Call) (room : Room) → (openRefusal catalogue (room .board) ≡ 0 → ⊥)
       → perform catalogue call room .room ≡ room

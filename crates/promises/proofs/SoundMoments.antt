@@ -6,7 +6,7 @@ use mathlib.Core.List.{List}
 use Rattle.builds.specs.Catalogue.{Catalogue}
 use Rattle.builds.specs.Fault.{faultOf}
 use Rattle.runs.specs.Call.{Call}
-use Rattle.runs.specs.Refusal.{openRefusal}
+use Rattle.runs.specs.RefusalTable.{openRefusal}
 use Rattle.runs.specs.Perform.{opening}
 use Rattle.runs.proofs.Sound.{Sound}
 use Rattle.runs.proofs.Performed.{opening-number}

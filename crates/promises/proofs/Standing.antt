@@ -4,7 +4,6 @@ use Prim.Native.Nat.{ℕ, zero, suc, _+_, _≤_}
 use mathlib.Core.Path.{_≡_, refl, sym, ap, _∙_, subst}
 use mathlib.Core.Bool.{Bool, true, false, cond}
 use mathlib.Core.Option.{Option, none, some}
-use mathlib.Core.List.{List}
 use native.Mathlib.Nat.{add-zero, add-assoc}
 use native.Mathlib.Numerals.{add-one}
 use native.Mathlib.Omega.{arith}
@@ -13,17 +12,17 @@ use borrow.Author.Tests.{ltb-true, ltb-false, eqb-true, eqb-false}
 use Rattle.builds.specs.Catalogue.{Catalogue}
 use Rattle.builds.specs.Fault.{faultOf}
 use Rattle.search.specs.declared.State.the-variants.{Ready, Closed}
-use Rattle.search.specs.Clinic.{Clinic, nothing16}
-use Rattle.search.specs.Step.{step, steps, posted, ReadyAfter}
+use Rattle.search.specs.Clinic.{Clinic}
+use Rattle.search.specs.Step.{step, steps, ReadyAfter}
 use Rattle.search.proofs.StepsAdded.{steps-choices}
 use Rattle.search.proofs.ReadyOnce.{not-both, ready-once}
 use Rattle.runs.specs.Room.{Room, clinicAt}
 use Rattle.runs.specs.Turn.{isAtWork, served, is, turn, afterTurns, stepsGiven}
-use Rattle.runs.specs.Run.{Since, closed, job, inForce, moreSteps}
+use Rattle.runs.specs.Run.{Since, closed, job, broughtTo, inForce}
 use Rattle.runs.proofs.Sound.{Sound, turn-sound}
 use Rattle.runs.proofs.Served.{served-found, not-idle}
 use Rattle.runs.proofs.OthersStay.{turn-steps, turn-stays}
-use Rattle.runs.proofs.TurnsMade.{idle-turn}
+use Rattle.runs.proofs.IdleTurns.{idle-turn}
 use Rattle.promises.specs.SearchState.{Stands, blank, searching}
 
 one-step-more : (catalogue : Catalogue) (n : ℕ) (clinic : Clinic) → steps catalogue (n + 1) clinic ≡ step catalogue (steps catalogue n clinic)
@@ -32,10 +31,9 @@ one-step-more catalogue zero clinic = refl
 one-step-more catalogue (suc n) clinic = rw add-one (rw add-one at (one-step-more catalogue n (step catalogue clinic)))
 
 -- a seat is ready exactly when it was given all its steps
-pub stands-after : (catalogue : Catalogue) (choices : List ℕ) (clinic : Clinic) (given K : ℕ)
-    → clinic ≡ steps catalogue given (posted (catalogue .sizes) choices)
-    → ReadyAfter catalogue (posted (catalogue .sizes) choices) K → given ≤ K → Stands catalogue clinic (job choices given)
-stands-after catalogue choices clinic given K same takes few = searching K same takes few (all-given (ltb given K) refl, then-ready)
+pub stands-after : (catalogue : Catalogue) (start clinic : Clinic) (given K : ℕ) → clinic ≡ steps catalogue given start
+    → ReadyAfter catalogue start K → given ≤ K → Stands catalogue clinic (job start given)
+stands-after catalogue start clinic given K same takes few = searching K same takes few (all-given (ltb given K) refl, then-ready)
   where
     all-given : (t : Bool) → ltb given K ≡ t → clinic .seat .state ≡ Ready → given ≡ K
     all-given true e ready =
@@ -46,63 +44,53 @@ stands-after catalogue choices clinic given K same takes few = searching K same 
     then-ready : given ≡ K → clinic .seat .state ≡ Ready
     then-ready e =
         ap (λ (x : Clinic). x .seat .state) same
-        ∙ subst (λ (n : ℕ). steps catalogue n (posted (catalogue .sizes) choices) .seat .state ≡ Ready) (sym e) (takes .ready)
+        ∙ subst (λ (n : ℕ). steps catalogue n start .seat .state ≡ Ready) (sym e) (takes .ready)
 
 -- what a standing in a job says
-module _ {catalogue : Catalogue} {clinic : Clinic} {choices : List ℕ} {given : ℕ} where
-  pub job-length : Stands catalogue clinic (job choices given) → (K : ℕ) × ReadyAfter catalogue (posted (catalogue .sizes) choices) K
+module _ {catalogue : Catalogue} {clinic start : Clinic} {given : ℕ} where
+  pub job-length : Stands catalogue clinic (job start given) → (K : ℕ) × ReadyAfter catalogue start K
   job-length (searching K same takes few ready) = (K, takes)
 
-  pub in-the-search : Stands catalogue clinic (job choices given) → clinic ≡ steps catalogue given (posted (catalogue .sizes) choices)
+  pub in-the-search : Stands catalogue clinic (job start given) → clinic ≡ steps catalogue given start
   in-the-search (searching K same takes few ready) = same
 
-  pub few-given : (K : ℕ) → ReadyAfter catalogue (posted (catalogue .sizes) choices) K
-      → Stands catalogue clinic (job choices given) → given ≤ K
+  pub few-given : (K : ℕ) → ReadyAfter catalogue start K → Stands catalogue clinic (job start given) → given ≤ K
   few-given K takes (searching K₁ same takes₁ few ready) =
-      let one = ready-once catalogue (posted (catalogue .sizes) choices) K K₁ takes takes₁ in
+      let one = ready-once catalogue start K K₁ takes takes₁ in
       omega arith
 
--- the choices of a clinic are those traced; one that is closed has none, for in a search a seat is at work or ready
+-- record and share are those traced, and so are the choices
+pub stands-at : {catalogue : Catalogue} {clinic : Clinic} {s : Since} → Stands catalogue clinic s → clinic ≡ broughtTo catalogue s
+stands-at (blank same) = same
+stands-at (searching K same takes few ready) = same
+
 pub stands-choices : {catalogue : Catalogue} {clinic : Clinic} {s : Since} → Stands catalogue clinic s
     → clinic .seat .choices ≡ inForce s
-unfolding posted
 stands-choices (blank same) = ap (λ (x : Clinic). x .seat .choices) same
-stands-choices {catalogue} (searching {choices} {given} K same takes few ready) =
-    ap (λ (x : Clinic). x .seat .choices) same ∙ steps-choices catalogue given (posted (catalogue .sizes) choices)
+stands-choices {catalogue} (searching {start} {given} K same takes few ready) =
+    ap (λ (x : Clinic). x .seat .choices) same ∙ steps-choices catalogue given start
 
-pub closed-no-choice : {catalogue : Catalogue} {clinic : Clinic} {s : Since} → Stands catalogue clinic s
-    → clinic .seat .state ≡ Closed → clinic .seat .choices ≡ nothing16
-closed-no-choice (blank same) is-closed = ap (λ (x : Clinic). x .seat .choices) same
-closed-no-choice {clinic} (searching {choices} {given} K same takes few ready) is-closed = go (ltb given K) refl
-  where
-    go : (t : Bool) → ltb given K ≡ t → clinic .seat .choices ≡ nothing16
-    go true e =
-        let at-work = ap (λ (x : Clinic). x .seat .state) same ∙ takes .at-work given (ltb-true given K e) .1 in
-        let z : _≡_ {A = ℕ} 0 1 = cc in
-        absurd (omega arith)
-    go false e =
-        let most = ltb-false given K e in
-        let all : given ≡ K = omega arith in
-        let is-ready = ready .1 all in
-        let z : _≡_ {A = ℕ} 0 1 = cc in
-        absurd (omega arith)
+-- what a seat has come through, and more steps
+abbrev pub moreSteps : ℕ → Since → Since
+moreSteps n closed = closed
+moreSteps n (job start given) = job start (given + n)
 
 pub no-steps : (s : Since) → moreSteps 0 s ≡ s
 no-steps closed = refl
-no-steps (job choices given) = rw add-zero
+no-steps (job start given) = rw add-zero
 
 some-steps : (m n : ℕ) (s : Since) → moreSteps n (moreSteps m s) ≡ moreSteps (m + n) s
 some-steps m n closed = refl
-some-steps m n (job choices given) = rw add-assoc
+some-steps m n (job start given) = rw add-assoc
 
 -- a step that a seat at work makes
 step-stands : {catalogue : Catalogue} {clinic : Clinic} {s : Since} → isAtWork (clinic .seat .state) ≡ true
     → Stands catalogue clinic s → Stands catalogue (step catalogue clinic) (moreSteps 1 s)
 step-stands {clinic} work (blank same) =
     absurd (not-idle (clinic .seat .state) Closed work refl (ap (λ (x : Clinic). x .seat .state) same))
-step-stands {catalogue} {clinic} work (searching {choices} {given} K same takes few ready) =
-    stands-after catalogue choices (step catalogue clinic) (given + 1) K
-    (ap (step catalogue) same ∙ sym (one-step-more catalogue given (posted (catalogue .sizes) choices)))
+step-stands {catalogue} {clinic} work (searching {start} {given} K same takes few ready) =
+    stands-after catalogue start (step catalogue clinic) (given + 1) K
+    (ap (step catalogue) same ∙ sym (one-step-more catalogue given start))
     takes (more (ltb given K) refl)
   where
     more : (t : Bool) → ltb given K ≡ t → given + 1 ≤ K

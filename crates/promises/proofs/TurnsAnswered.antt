@@ -6,14 +6,14 @@ use Rattle.builds.specs.Catalogue.{Catalogue}
 use Rattle.runs.specs.Room.{Room}
 use Rattle.runs.specs.Call.{turns}
 use Rattle.runs.specs.Turn.{turn, afterTurns}
-use Rattle.runs.specs.Refusal.{refusal}
+use Rattle.runs.specs.RefusalTable.{refusal}
 use Rattle.runs.specs.Perform.{done, perform}
 use Rattle.runs.proofs.Sound.{Sound, turns-sound}
 use Rattle.runs.proofs.Performed.{perform-number, perform-accepted, after-call}
-use Rattle.runs.proofs.AcceptedCalls.{accepted}
+use Rattle.runs.proofs.AcceptedCalls.{checked}
 use Rattle.runs.proofs.TurnsAdded.{turns-performed}
-use Rattle.runs.proofs.TurnsMade.{idle-turn}
-use Rattle.runs.proofs.TurnsAnswered as laws
+use Rattle.runs.proofs.IdleTurns.{idle-turn}
+use Rattle.runs.proofs.AnswerOfTurns as laws
 use Rattle.runs.proofs.RingAhead as ring
 use Rattle.promises.specs.Frame.{Whole}
 use Rattle.promises.specs.TurnsAnswered.{TurnsAnswered, EveryTurns, OneTurn}
@@ -23,10 +23,10 @@ module _ (catalogue : Catalogue) (room : Room) (w : ℕ) (taken : perform catalo
   not-refused : refusal catalogue (turns w) room ≡ 0
   not-refused = sym (perform-number catalogue (turns w) room) ∙ taken
 
-  answered : Whole room → TurnsAnswered catalogue room w
+  answered : Whole room → TurnsAnswered catalogue room w (perform catalogue (turns w) room)
   unfolding done
   answered whole =
-      let call = accepted catalogue (turns w) room not-refused in
+      let call = checked catalogue (turns w) room not-refused .0 in
       let sound : Sound catalogue room = whole-sound room whole catalogue (call .desk-fits) in
       let after : Sound catalogue (afterTurns catalogue w room) = turns-sound catalogue (call .faultless) w room sound in
       let does : perform catalogue (turns w) room ≡ done catalogue (turns w) room = perform-accepted catalogue (turns w) room not-refused in

@@ -3,16 +3,16 @@
 -- checks.
 use Prim.Native.Nat.{ℕ, _+_, _<_}
 use mathlib.Core.Path.{_≡_}
-use mathlib.Core.Bool.{true, false}
+use mathlib.Core.Bool.{true}
 use mathlib.Core.Option.{some}
-use mathlib.Core.List.{[]}
 use lib.ListN.{length}
 use Rattle.builds.specs.Catalogue.{Catalogue}
 use Rattle.builds.specs.Fault.{faultOf}
 use Rattle.search.specs.Step.{step}
+use Rattle.runs.specs.declared.Asking.{Asking}
 use Rattle.runs.specs.Room.{Room, clinicAt}
-use Rattle.runs.specs.Fit.{deskFits}
-use Rattle.runs.specs.Call.{Call, turns, isOf, numbersOf}
+use Rattle.runs.specs.DeskFits.{deskFits}
+use Rattle.runs.specs.Call.{asks, turns}
 use Rattle.runs.specs.Turn.{served, seatAfter, turn}
 use Rattle.runs.specs.Perform.{perform}
 use Rattle.promises.specs.Moment.{seatIn}
@@ -27,10 +27,9 @@ pub record Whole (room : Room) : Type 0 where
 
 pub record Frame : Type 0 where
   -- a call for a seat leaves every other clinic's record and share alone, and next
-  pub calls-stay : (catalogue : Catalogue) (call : Call) (room : Room) → Whole room
-      → (numbersOf call ≡ [] → ⊥) → (d : ℕ) → d < 8 → isOf d call ≡ false
-      → (clinicAt (perform catalogue call room .room) d ≡ clinicAt room d)
-      × (perform catalogue call room .room .desk .next ≡ room .desk .next)
+  pub calls-stay : (catalogue : Catalogue) (c : ℕ) (asking : Asking) (room : Room) → Whole room → (d : ℕ) → d < 8 → (d ≡ c → ⊥)
+      → (clinicAt (perform catalogue (asks c asking) room .room) d ≡ clinicAt room d)
+      × (perform catalogue (asks c asking) room .room .desk .next ≡ room .desk .next)
   -- a turn gives the seat that it serves one step, leaves every other clinic alone, and moves next to the seat after it
   pub turns-stay : (catalogue : Catalogue) (room : Room) → Whole room
       → faultOf catalogue ≡ 0 → deskFits catalogue (room .desk) ≡ true → (c : ℕ) → served (room .desk) ≡ some c

@@ -8,27 +8,23 @@ use lib.ListN.{length, getD}
 use Rattle.builds.specs.Catalogue.{Catalogue}
 use Rattle.builds.specs.Build.{IsBuild}
 use Rattle.search.specs.declared.State.the-variants.{Ready}
-use Rattle.search.specs.Bits.{hasBit}
 use Rattle.search.specs.Clinic.{nothing16, noneLeft, emptyShare}
 use Rattle.runs.specs.Room.{Room, shareAt}
-use Rattle.runs.specs.Call.{Call, options}
-use Rattle.runs.specs.Perform.{perform}
+use Rattle.runs.specs.Call.{Call}
 use Rattle.promises.specs.Moment.{moment, Opened, seatIn}
+use Rattle.promises.specs.OptionsLeft.{shown}
 
 pub record InARun (catalogue : Catalogue) (room : Room) (c : ℕ) : Type 0 where
   -- in a ready seat a feature that has a choice shows that option alone as left
-  pub choice-alone : seatIn room c .state ≡ Ready
-      → (i x : ℕ) → i < length (catalogue .sizes) → getD (seatIn room c .choices) i 255 ≡ x → (x ≡ 255 → ⊥)
-      → (a : ℕ) → (hasBit (perform catalogue (options c i) room .answer .mask) a ≡ true) ↔ (a ≡ x)
+  pub choice-alone : seatIn room c .state ≡ Ready → (i x : ℕ) → i < length (catalogue .sizes)
+      → getD (seatIn room c .choices) i 255 ≡ x → (x ≡ 255 → ⊥) → (a : ℕ) → (shown catalogue room c i a ≡ true) ↔ (a ≡ x)
   -- if the catalogue has a build, every ready seat shows at least one option for each feature
   pub some-left : (build : List ℕ) → IsBuild catalogue nothing16 build → seatIn room c .state ≡ Ready
-      → (i : ℕ) → i < length (catalogue .sizes)
-      → (a : ℕ) × (hasBit (perform catalogue (options c i) room .answer .mask) a ≡ true)
+      → (i : ℕ) → i < length (catalogue .sizes) → (a : ℕ) × (shown catalogue room c i a ≡ true)
   -- if it has none, no option anywhere, whether the seat is ready or not: neither in the masks nor on the board
   pub none-left : ((build : List ℕ) → IsBuild catalogue nothing16 build → ⊥)
       → (seatIn room c .masks ≡ noneLeft) × (shareAt (room .board) c ≡ emptyShare)
 
 abbrev pub EveryRun : Type 0
-EveryRun =
-    (catalogue : Catalogue) (board : List ℕ) → Opened catalogue board
-    → (calls : List Call) (c : ℕ) → c < 8 → InARun catalogue (moment catalogue board calls) c
+EveryRun = (catalogue : Catalogue) (board : List ℕ) → Opened catalogue board → (calls : List Call) (c : ℕ) → c < 8
+    → InARun catalogue (moment catalogue board calls) c

@@ -11,10 +11,9 @@ use Rattle.builds.specs.Catalogue.{Catalogue}
 use Rattle.builds.specs.Format.{Accepted}
 use Rattle.builds.specs.Fault.{faultOf}
 use Rattle.runs.specs.Room.{Room, freshDesk}
-use Rattle.runs.specs.Call.{Call, refused, seatOf}
-use Rattle.runs.specs.Refusal.{table, openTable}
+use Rattle.runs.specs.Call.{Call, refused}
+use Rattle.runs.specs.RefusalTable.{table, openTable}
 use Rattle.runs.specs.Perform.{perform, opening}
-use Rattle.promises.specs.Moment.{seatIn}
 
 -- Of a table's rows, each a number or 0 where it has nothing to say: r is given when its row gives it and every earlier
 -- row is 0; 0 is given when every row is 0.
@@ -26,7 +25,7 @@ pub data Gives : List ℕ → ℕ → Type 0 where
 pub record Refusals : Type 0 where
   -- exactly when the table says so
   pub by-the-table : (catalogue : Catalogue) (call : Call) (room : Room) (r : ℕ)
-      → (perform catalogue call room .answer .number ≡ r) ↔ Gives (table catalogue call room (seatIn room (seatOf call))) r
+      → (perform catalogue call room .answer .number ≡ r) ↔ Gives (table catalogue call room) r
   -- a refusal changes neither desk nor board, and answers nothing else
   pub changes-nothing : (catalogue : Catalogue) (call : Call) (room : Room) (r : ℕ)
       → perform catalogue call room .answer .number ≡ r → (r ≡ 0 → ⊥)

@@ -8,29 +8,25 @@ use mathlib.Core.Bool.{true, false}
 use mathlib.Core.Option.{none, some}
 use mathlib.Core.List.{map}
 use Rattle.builds.specs.Catalogue.{Catalogue}
-use Rattle.builds.specs.Builds.{countFrom}
-use Rattle.search.specs.Count.{sum}
+use Rattle.builds.specs.Lists.{countFrom, sum}
 use Rattle.runs.specs.Room.{Room}
 use Rattle.runs.specs.Call.{turns}
 use Rattle.runs.specs.Turn.{isAtWork, served, turn, stepsGiven}
-use Rattle.runs.specs.Perform.{perform}
+use Rattle.runs.specs.Perform.{Outcome, perform}
 use Rattle.promises.specs.Moment.{seatIn}
 use Rattle.promises.specs.Frame.{Whole}
 
-pub record TurnsAnswered (catalogue : Catalogue) (room : Room) (w : ℕ) : Type 0 where
+-- w turns asked for in a room, and what comes of them
+pub record TurnsAnswered (catalogue : Catalogue) (room : Room) (w : ℕ) (after : Outcome) : Type 0 where
   -- the turns made are the steps given to the eight seats
-  pub made-are-steps : perform catalogue (turns w) room .answer .made
-      ≡ sum (map (λ (c : ℕ). stepsGiven catalogue c w room) (countFrom 0 8))
+  pub made-are-steps : after .answer .made ≡ sum (map (λ (c : ℕ). stepsGiven catalogue c w room) (countFrom 0 8))
   -- all that were asked for, or fewer and no seat is at work
-  pub all-or-idle : (perform catalogue (turns w) room .answer .made ≡ w)
-      ⊎ ((perform catalogue (turns w) room .answer .made < w) × (perform catalogue (turns w) room .answer .working ≡ false))
-  pub still-working : (perform catalogue (turns w) room .answer .working ≡ true)
-      ↔ ((c : ℕ) × (c < 8) × (isAtWork (seatIn (perform catalogue (turns w) room .room) c .state) ≡ true))
+  pub all-or-idle : (after .answer .made ≡ w) ⊎ ((after .answer .made < w) × (after .answer .working ≡ false))
+  pub still-working : (after .answer .working ≡ true) ↔ ((c : ℕ) × (c < 8) × (isAtWork (seatIn (after .room) c .state) ≡ true))
 
 abbrev pub EveryTurns : Type 0
-EveryTurns =
-    (catalogue : Catalogue) (room : Room) → Whole room → (w : ℕ) → perform catalogue (turns w) room .answer .number ≡ 0
-    → TurnsAnswered catalogue room w
+EveryTurns = (catalogue : Catalogue) (room : Room) → Whole room → (w : ℕ)
+    → perform catalogue (turns w) room .answer .number ≡ 0 → TurnsAnswered catalogue room w (perform catalogue (turns w) room)
 
 -- seat c is the first at work from next upward around the ring: so many seats on, and all before it are not at work
 pub record FirstAtWork (room : Room) (c : ℕ) : Type 0 where

@@ -8,21 +8,18 @@ use Rattle.builds.specs.Catalogue.{Catalogue}
 use Rattle.runs.specs.Room.{clinicAt}
 use Rattle.runs.specs.Call.{Call, Answer}
 use Rattle.runs.specs.Perform.{opening}
-use Rattle.runs.specs.Run.{Own, side}
+use Rattle.runs.specs.Run.{side}
 use Rattle.promises.specs.Moment.{moment, Opened}
 
 -- clinic c's calls, each with the steps that it was given after it, and the answers to them
 abbrev pub callsOf : Catalogue → List ℕ → List Call → ℕ → List (Call × ℕ)
-callsOf catalogue board calls c =
-    map (λ (own : Own). (own .call, own .stepsAfter)) (side catalogue c calls (opening catalogue board .room))
+callsOf catalogue board calls c = map (λ own. own .0) (side catalogue c calls (opening catalogue board .room))
 
 abbrev pub answersOf : Catalogue → List ℕ → List Call → ℕ → List Answer
-answersOf catalogue board calls c = map (λ (own : Own). own .answer) (side catalogue c calls (opening catalogue board .room))
+answersOf catalogue board calls c = map (λ own. own .1) (side catalogue c calls (opening catalogue board .room))
 
 abbrev pub TwoRuns : Type 0
-TwoRuns =
-    (catalogue : Catalogue) (board₁ board₂ : List ℕ) → Opened catalogue board₁ → Opened catalogue board₂
-    → (calls₁ calls₂ : List Call) (c : ℕ) → c < 8
-    → callsOf catalogue board₁ calls₁ c ≡ callsOf catalogue board₂ calls₂ c
+TwoRuns = (catalogue : Catalogue) (board₁ board₂ : List ℕ) → Opened catalogue board₁ → Opened catalogue board₂
+    → (calls₁ calls₂ : List Call) (c : ℕ) → c < 8 → callsOf catalogue board₁ calls₁ c ≡ callsOf catalogue board₂ calls₂ c
     → (answersOf catalogue board₁ calls₁ c ≡ answersOf catalogue board₂ calls₂ c)
     × (clinicAt (moment catalogue board₁ calls₁) c ≡ clinicAt (moment catalogue board₂ calls₂) c)

@@ -11,8 +11,8 @@ use lib.ListN.{length, set}
 use lib.Dec.{eqb}
 use lib.Bits.{bitAnd, bitOr}
 use lib.Count.{trailingZeros}
-use Rattle.search.specs.Fit.{everyBelow}
-use Rattle.search.proofs.Fits.{every-below}
+use Rattle.builds.specs.Lists.{everyBelow}
+use Rattle.search.proofs.FitsInWords.{every-below}
 use Rattle.ring.specs.inner.Marks.{trueFrom}
 use Rattle.ring.specs.inner.Marks.{marksOf}
 use Rattle.runs.specs.Turn.{is, isSome}

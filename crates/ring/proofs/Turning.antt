@@ -20,7 +20,7 @@ use Rattle.runs.specs.Turn.{isAtWork, isSome, served, turnFor, turn, afterTurns
 use Rattle.runs.proofs.Sound.{Sound, turn-sound}
 use Rattle.runs.proofs.Served.{FoundAtWork, served-found}
 use Rattle.ring.proofs.FirstAtWork.{marks, mark-at, marks-set, marks-found}
-use Rattle.runs.proofs.MadeTurns.{Made, one-more, all-made, nobody-left}
+use Rattle.runs.proofs.TurnByTurn.{Made, one-more, all-made, nobody-left}
 
 pub record Turning (catalogue : Catalogue) (w : ℕ) (start : Room) (made : ℕ) (working : List Bool) (room : Room) : Type 0 where
   pub sound : Sound catalogue room

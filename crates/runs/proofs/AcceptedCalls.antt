@@ -1,61 +1,52 @@
--- What is known of a call that isn't refused: every row of the table that is for it has a condition that fails. So board,
--- catalogue and desk passed their checks, and the seat, the feature and the option that it names are as they must be.
+-- What is known of a call that isn't refused: board, catalogue and desk passed their checks; the seat of an asking is one of
+-- the eight; and every row that the asking lists has a condition that fails.
 use Prim.Native.Nat.{ℕ, suc, _<_}
-use mathlib.Core.Path.{_≡_}
+use mathlib.Core.Path.{_≡_, refl}
 use mathlib.Core.Bool.{Bool, true, false, not}
-use mathlib.Core.List.{List}
+use mathlib.Core.List.{List, [], _∷_}
 use native.Mathlib.Omega.{arith}
-use lib.ListN.{length}
+use lib.ListN.{length, getD}
 use lib.Dec.{ltb, eqb}
 use borrow.Author.Tests.{ltb-true, ltb-false, eqb-true, not-false}
-use Rattle.builds.specs.Catalogue.{Catalogue, sizeOf}
-use Rattle.builds.specs.Fault.{faultOf, member}
+use Rattle.builds.specs.Catalogue.{Catalogue}
+use Rattle.builds.specs.Checks.{first}
+use Rattle.builds.specs.Lists.{member}
+use Rattle.builds.specs.Fault.{faultOf}
 use Rattle.builds.proofs.Inversion.{orElse-zero, when-zero, when-not-zero}
 use Rattle.search.specs.declared.Seat.{Seat}
 use Rattle.search.specs.Look.{isClosed, isAtWork, hasChoice, isLeft}
+use Rattle.runs.specs.declared.Asking.{Asking}
+use Rattle.runs.specs.declared.Asking.the-variants.{Enter, Leave, Choose, Relax, Read}
+use Rattle.runs.specs.declared.Reading.the-variants.{Options, Example}
 use Rattle.runs.specs.Room.{Room, seatAt}
-use Rattle.runs.specs.Fit.{deskFits}
-use Rattle.runs.specs.Call.{Call, seatOf, featureOf, optionOf}
-use Rattle.runs.specs.Refusal.{rowsFor, row, refusal, openRefusal}
+use Rattle.runs.specs.DeskFits.{deskFits}
+use Rattle.runs.specs.Call.{Call, asks}
+use Rattle.runs.specs.RefusalTable.{row, seatRows, askedRows, rowsOf, refusal, openRefusal}
 
--- where row number r is for a call
-abbrev pub RowFor : ℕ → Call → Type 0
-RowFor r call = member r (rowsFor call) ≡ true
+-- ---- the rows that an asking lists
 
-pub record AcceptedCall (catalogue : Catalogue) (call : Call) (room : Room) (seat : Seat) : Type 0 where
-  pub board-length : length (room .board) ≡ 32768
-  pub faultless : faultOf catalogue ≡ 0
-  pub desk-fits : deskFits catalogue (room .desk) ≡ true
-  pub seat-below : RowFor 30 call → seatOf call < 8
-  pub seat-open : RowFor 31 call → isClosed (seat .state) ≡ false
-  pub seat-closed : RowFor 32 call → isClosed (seat .state) ≡ true
-  pub not-at-work : RowFor 33 call → isAtWork (seat .state) ≡ false
-  pub feature-below : RowFor 34 call → featureOf call < length (catalogue .sizes)
-  pub option-below : RowFor 35 call → optionOf call < sizeOf catalogue (featureOf call)
-  pub no-choice : RowFor 36 call → hasChoice seat (featureOf call) ≡ false
-  pub option-left : RowFor 37 call → isLeft seat (featureOf call) (optionOf call) ≡ true
-  pub some-choice : RowFor 38 call → hasChoice seat (featureOf call) ≡ true
+-- where row number r is listed
+abbrev pub Lists : List ℕ → ℕ → Type 0
+Lists listed r = member r listed ≡ true
 
--- a row that is for the call gives 0 only where its condition fails
-row-fails : (call : Call) (n : ℕ) (condition : Bool) → row call (suc n) condition ≡ 0 → RowFor (suc n) call → condition ≡ false
-row-fails call n condition h for-it =
-    when-zero condition n (rw for-it at h)
+pub record RowsPassed (listed sizes : List ℕ) (seat : Seat) (i a : ℕ) : Type 0 where
+  pub seat-open : Lists listed 31 → isClosed (seat .state) ≡ false
+  pub seat-closed : Lists listed 32 → isClosed (seat .state) ≡ true
+  pub not-at-work : Lists listed 33 → isAtWork (seat .state) ≡ false
+  pub feature-below : Lists listed 34 → i < length sizes
+  pub option-below : Lists listed 35 → a < getD sizes i 0
+  pub no-choice : Lists listed 36 → hasChoice seat i ≡ false
+  pub option-left : Lists listed 37 → isLeft seat i a ≡ true
+  pub some-choice : Lists listed 38 → hasChoice seat i ≡ true
 
-not-above-7 : (c : ℕ) → ltb 7 c ≡ false → c < 8
-not-above-7 c h = omega (arith, ltb-false 7 c h)
+module _ (listed sizes : List ℕ) (seat : Seat) (i a : ℕ) where
+  -- a row that is listed gives 0 only where its condition fails
+  fails : (n : ℕ) (condition : Bool) → row listed (suc n) condition ≡ 0 → Lists listed (suc n) → condition ≡ false
+  fails n condition h listed-so = when-zero condition n (rw listed-so at h)
 
-module _ (catalogue : Catalogue) (call : Call) (room : Room) where
-  abbrev named : Seat
-  named = seatAt (room .desk) (seatOf call)
-
-  pub accepted : refusal catalogue call room ≡ 0 → AcceptedCall catalogue call room named
-  unfolding refusal
-  accepted h =
-      let t1 = orElse-zero _ _ h in
-      let t2 = orElse-zero _ _ (t1 .1) in
-      let t20 = orElse-zero _ _ (t2 .1) in
-      let t30 = orElse-zero _ _ (t20 .1) in
-      let t31 = orElse-zero _ _ (t30 .1) in
+  pub passed : first (seatRows listed sizes seat i a) ≡ 0 → RowsPassed listed sizes seat i a
+  passed h =
+      let t31 = orElse-zero _ _ h in
       let t32 = orElse-zero _ _ (t31 .1) in
       let t33 = orElse-zero _ _ (t32 .1) in
       let t34 = orElse-zero _ _ (t33 .1) in
@@ -64,27 +55,81 @@ module _ (catalogue : Catalogue) (call : Call) (room : Room) where
       let t37 = orElse-zero _ _ (t36 .1) in
       let t38 = orElse-zero _ _ (t37 .1) in
       record {
-        board-length = eqb-true (length (room .board)) 32768 (when-not-zero (eqb (length (room .board)) 32768) 0 (t1 .0));
-        faultless = t2 .0;
-        desk-fits = when-not-zero (deskFits catalogue (room .desk)) 19 (t20 .0);
-        seat-below = λ f. not-above-7 (seatOf call) (row-fails call 29 (ltb 7 (seatOf call)) (t30 .0) f);
-        seat-open = row-fails call 30 (isClosed (named .state)) (t31 .0);
-        seat-closed = λ f. not-false (isClosed (named .state)) (row-fails call 31 (not (isClosed (named .state))) (t32 .0) f);
-        not-at-work = row-fails call 32 (isAtWork (named .state)) (t33 .0);
-        feature-below = λ f.
-            ltb-true (featureOf call) (length (catalogue .sizes))
-            (not-false _ (row-fails call 33 (not (ltb (featureOf call) (length (catalogue .sizes)))) (t34 .0) f));
-        option-below = λ f.
-            ltb-true (optionOf call) (sizeOf catalogue (featureOf call))
-            (not-false _ (row-fails call 34 (not (ltb (optionOf call) (sizeOf catalogue (featureOf call)))) (t35 .0) f));
-        no-choice = row-fails call 35 (hasChoice named (featureOf call)) (t36 .0);
-        option-left = λ f.
-            not-false (isLeft named (featureOf call) (optionOf call))
-            (row-fails call 36 (not (isLeft named (featureOf call) (optionOf call))) (t37 .0) f);
-        some-choice = λ f.
-            not-false (hasChoice named (featureOf call))
-            (row-fails call 37 (not (hasChoice named (featureOf call))) (t38 .0) f);
+        seat-open = fails 30 (isClosed (seat .state)) (t31 .0);
+        seat-closed = λ l. not-false (isClosed (seat .state)) (fails 31 (not (isClosed (seat .state))) (t32 .0) l);
+        not-at-work = fails 32 (isAtWork (seat .state)) (t33 .0);
+        feature-below = λ l.
+            ltb-true i (length sizes) (not-false _ (fails 33 (not (ltb i (length sizes))) (t34 .0) l));
+        option-below = λ l.
+            ltb-true a (getD sizes i 0) (not-false _ (fails 34 (not (ltb a (getD sizes i 0))) (t35 .0) l));
+        no-choice = fails 35 (hasChoice seat i) (t36 .0);
+        option-left = λ l. not-false (isLeft seat i a) (fails 36 (not (isLeft seat i a)) (t37 .0) l);
+        some-choice = λ l. not-false (hasChoice seat i) (fails 37 (not (hasChoice seat i)) (t38 .0) l);
       }
+
+-- every asking lists some rows, and names some feature and option
+pub record SeatRows (sizes : List ℕ) (seat : Seat) (asking : Asking) : Type 0 where
+  pub listed : List ℕ
+  pub feature : ℕ
+  pub option : ℕ
+  pub is-seat-rows : askedRows sizes seat asking ≡ seatRows listed sizes seat feature option
+
+pub asked-rows : (sizes : List ℕ) (seat : Seat) (asking : Asking) → SeatRows sizes seat asking
+asked-rows sizes seat Enter = record { listed = 32 ∷ []; feature = 0; option = 0; is-seat-rows = refl }
+asked-rows sizes seat Leave = record { listed = 31 ∷ []; feature = 0; option = 0; is-seat-rows = refl }
+asked-rows sizes seat (Choose i a) =
+    record { listed = 31 ∷ 33 ∷ 34 ∷ 35 ∷ 36 ∷ 37 ∷ []; feature = i; option = a; is-seat-rows = refl }
+asked-rows sizes seat (Relax i) = record { listed = 31 ∷ 33 ∷ 34 ∷ 38 ∷ []; feature = i; option = 0; is-seat-rows = refl }
+asked-rows sizes seat (Read (Options i)) = record { listed = 31 ∷ 33 ∷ 34 ∷ []; feature = i; option = 0; is-seat-rows = refl }
+asked-rows sizes seat (Read (Example i a)) =
+    record { listed = 31 ∷ 33 ∷ 34 ∷ 35 ∷ 37 ∷ []; feature = i; option = a; is-seat-rows = refl }
+
+-- the same of each asking that changes its clinic, by the rows that it lists
+module _ (sizes : List ℕ) (seat : Seat) where
+  pub enter-passed : first (askedRows sizes seat Enter) ≡ 0 → RowsPassed (32 ∷ []) sizes seat 0 0
+  enter-passed = passed (32 ∷ []) sizes seat 0 0
+
+  pub choose-passed : {i a : ℕ} → first (askedRows sizes seat (Choose i a)) ≡ 0
+      → RowsPassed (31 ∷ 33 ∷ 34 ∷ 35 ∷ 36 ∷ 37 ∷ []) sizes seat i a
+  choose-passed {i} {a} = passed (31 ∷ 33 ∷ 34 ∷ 35 ∷ 36 ∷ 37 ∷ []) sizes seat i a
+
+  pub relax-passed : {i : ℕ} → first (askedRows sizes seat (Relax i)) ≡ 0 → RowsPassed (31 ∷ 33 ∷ 34 ∷ 38 ∷ []) sizes seat i 0
+  relax-passed {i} = passed (31 ∷ 33 ∷ 34 ∷ 38 ∷ []) sizes seat i 0
+
+-- ---- the whole table
+
+pub record Checked (catalogue : Catalogue) (room : Room) : Type 0 where
+  pub board-length : length (room .board) ≡ 32768
+  pub faultless : faultOf catalogue ≡ 0
+  pub desk-fits : deskFits catalogue (room .desk) ≡ true
+
+module _ (catalogue : Catalogue) (call : Call) (room : Room) where
+  pub checked : refusal catalogue call room ≡ 0 → Checked catalogue room × (first (rowsOf (catalogue .sizes) call (room .desk)) ≡ 0)
+  unfolding refusal
+  checked h =
+      let t1 = orElse-zero _ _ h in
+      let t2 = orElse-zero _ _ (t1 .1) in
+      let t20 = orElse-zero _ _ (t2 .1) in (
+        record {
+          board-length = eqb-true (length (room .board)) 32768 (when-not-zero (eqb (length (room .board)) 32768) 0 (t1 .0));
+          faultless = t2 .0;
+          desk-fits = when-not-zero (deskFits catalogue (room .desk)) 19 (t20 .0);
+        },
+        t20 .1,
+      )
+
+-- an asking that is accepted, of a seat that there is
+pub record AcceptedAsking (catalogue : Catalogue) (c : ℕ) (asking : Asking) (room : Room) : Type 0 where
+  pub checks : Checked catalogue room
+  pub seat-below : c < 8
+  pub rows : first (askedRows (catalogue .sizes) (seatAt (room .desk) c) asking) ≡ 0
+
+pub accepted : (catalogue : Catalogue) (c : ℕ) (asking : Asking) (room : Room) → refusal catalogue (asks c asking) room ≡ 0
+    → AcceptedAsking catalogue c asking room
+accepted catalogue c asking room h =
+    let all = checked catalogue (asks c asking) room h in
+    let t30 = orElse-zero _ _ (all .1) in
+    record { checks = all .0; seat-below = omega (arith, ltb-false 7 c (when-zero (ltb 7 c) 29 (t30 .0))); rows = t30 .1 }
 
 module _ (catalogue : Catalogue) (board : List ℕ) where
   pub opened : openRefusal catalogue board ≡ 0 → (length board ≡ 32768) × (faultOf catalogue ≡ 0)

@@ -1,94 +1,55 @@
--- In two sound rooms that have the same record and share at a seat, a call that names the seat is answered alike and leaves
--- the same record and share there: it is refused alike, and what it does there it makes of that record and share alone.
+-- In two sound rooms that have the same record and share at a seat, an asking of the seat is answered alike and leaves the
+-- same record and share there: it is refused alike, and what it answers and leaves it makes of that record and share alone.
 use Prim.Native.Nat.{ℕ, zero, suc, _<_}
 use mathlib.Core.Path.{_≡_, refl, sym, ap, _∙_}
-use mathlib.Core.Bool.{true}
-use mathlib.Core.List.{List}
 use native.Mathlib.Omega.{arith}
-use lib.ListN.{length, getD, set, length-replicate}
-use borrow.Author.Tests.{eqb-true}
 use Rattle.builds.specs.Catalogue.{Catalogue}
 use Rattle.builds.specs.Fault.{faultOf}
-use Rattle.search.specs.Clinic.{Clinic, closedClinic, exampleIn}
-use Rattle.search.specs.Step.{posted}
+use Rattle.search.specs.Clinic.{Clinic}
+use Rattle.runs.specs.declared.Asking.{Asking}
 use Rattle.runs.specs.Room.{Room, clinicAt}
-use Rattle.runs.specs.Call.{Call, enter, leave, choose, relax, options, example, turns, seatOf, isOf}
-use Rattle.runs.specs.Refusal.{refusal}
-use Rattle.runs.specs.Perform.{Outcome, changed, optionsAnswer, exampleAnswer, done, unless, perform}
-use Rattle.runs.proofs.WithClinic.{with-same}
+use Rattle.runs.specs.Call.{asks, Answer, refused}
+use Rattle.runs.specs.RefusalTable.{refusal}
+use Rattle.runs.specs.Perform.{Outcome, kindOf, leftBy, answerBy, done, perform}
 use Rattle.runs.proofs.Sound.{Sound}
+use Rattle.runs.proofs.Performed.{perform-accepted, perform-refused}
 use Rattle.runs.proofs.ChecksPassed.{refused-alike}
-use Rattle.runs.proofs.OthersStay.{posted-bytes}
+use Rattle.runs.proofs.OthersStay.{asking-leaves}
 
--- the seat that a clinic's own calls name is its seat
-own-seat : (c : ℕ) (call : Call) → isOf c call ≡ true → seatOf call ≡ c
-own-seat c (enter d) own = sym (eqb-true c d own)
-own-seat c (leave d) own = sym (eqb-true c d own)
-own-seat c (choose d i a) own = sym (eqb-true c d own)
-own-seat c (relax d i) own = sym (eqb-true c d own)
-own-seat c (options d i) own = sym (eqb-true c d own)
-own-seat c (example d i a) own = sym (eqb-true c d own)
-own-seat c (turns w) own = let z : _≡_ {A = ℕ} 0 1 = cc in absurd (omega arith)
+module _ (catalogue : Catalogue) (fault : faultOf catalogue ≡ 0) (c : ℕ) (asking : Asking) where
+  abbrev answered : Room → Answer
+  answered room = perform catalogue (asks c asking) room .answer
 
-module _ (catalogue : Catalogue) (c : ℕ) (l : c < 8) where
-  -- a clinic that a call changes is as the call leaves it
-  changed-is : (room : Room) → Sound catalogue room → (clinic : Clinic) → length (clinic .share) ≡ 4096
-      → clinicAt (changed c clinic room .room) c ≡ clinic
-  changed-is room sound clinic full =
-      with-same room (sound .eight) (sound .board-length) c (room .desk .next) l clinic full
+  abbrev leaves : Room → Clinic
+  leaves room = clinicAt (perform catalogue (asks c asking) room .room) c
 
-  module _
-      (room₁ room₂ : Room)
-      (sound₁ : Sound catalogue room₁)
-      (sound₂ : Sound catalogue room₂)
-      (same : clinicAt room₁ c ≡ clinicAt room₂ c)
-    where
-      -- what clinic c sees of two outcomes is the same
-      abbrev Alike : Outcome → Outcome → Type 0
-      Alike outcome₁ outcome₂ =
-          (outcome₁ .answer ≡ outcome₂ .answer) × (clinicAt (outcome₁ .room) c ≡ clinicAt (outcome₂ .room) c)
+  -- what an accepted asking answers, of record and share
+  accepted-answer : (room : Room) → refusal catalogue (asks c asking) room ≡ 0
+      → answered room ≡ answerBy (kindOf asking (clinicAt room c .seat .choices)) (clinicAt room c)
+  unfolding done
+  accepted-answer room h = ap (λ (o : Outcome). o .answer) (perform-accepted catalogue (asks c asking) room h)
 
-      changed-alike : (new : Clinic → Clinic) → ((clinic : Clinic) → length (new clinic .share) ≡ 4096)
-          → Alike (changed c (new (clinicAt room₁ c)) room₁) (changed c (new (clinicAt room₂ c)) room₂)
-      changed-alike new full = (
-        refl,
-        changed-is room₁ sound₁ (new (clinicAt room₁ c)) (full (clinicAt room₁ c))
-            ∙ ap new same
-            ∙ sym (changed-is room₂ sound₂ (new (clinicAt room₂ c)) (full (clinicAt room₂ c))),
-      )
+  module _ (room₁ room₂ : Room) (sound₁ : Sound catalogue room₁) (sound₂ : Sound catalogue room₂) (same : clinicAt room₁ c ≡ clinicAt room₂ c) where
+    refused-both : refusal catalogue (asks c asking) room₁ ≡ refusal catalogue (asks c asking) room₂
+    refused-both = refused-alike catalogue fault c asking room₁ room₂ sound₁ sound₂ (ap (λ (clinic : Clinic). clinic .seat) same)
 
-      posted-alike : (choices : List ℕ → List ℕ)
-          → Alike (changed c (posted (catalogue .sizes) (choices (clinicAt room₁ c .seat .choices))) room₁)
-          (changed c (posted (catalogue .sizes) (choices (clinicAt room₂ c .seat .choices))) room₂)
-      posted-alike choices =
-          changed-alike (λ (clinic : Clinic). posted (catalogue .sizes) (choices (clinic .seat .choices)))
-          (λ (clinic : Clinic). posted-bytes (catalogue .sizes) (choices (clinic .seat .choices)))
-
-      done-alike : (call : Call) → isOf c call ≡ true → seatOf call ≡ c
-          → Alike (done catalogue call room₁) (done catalogue call room₂)
-      unfolding done
-      done-alike (enter d) own named = rw named (posted-alike (λ (choices : List ℕ). choices))
-      done-alike (leave d) own named =
-          rw named
-          (changed-alike (λ (clinic : Clinic). closedClinic) (λ (clinic : Clinic). length-replicate {A = ℕ} 4096 255))
-      done-alike (choose d i a) own named = rw named (posted-alike (λ (choices : List ℕ). set choices i a))
-      done-alike (relax d i) own named = rw named (posted-alike (λ (choices : List ℕ). set choices i 255))
-      done-alike (options d i) own named =
-          rw named (ap (λ (clinic : Clinic). optionsAnswer (getD (clinic .seat .masks) i 0)) same, same)
-      done-alike (example d i a) own named =
-          rw named (ap (λ (clinic : Clinic). exampleAnswer (exampleIn (clinic .share) i a)) same, same)
-      done-alike (turns w) own named = let z : _≡_ {A = ℕ} 0 1 = cc in absurd (omega arith)
-
-      pub answered-alike : faultOf catalogue ≡ 0 → (call : Call) → isOf c call ≡ true
-          → Alike (perform catalogue call room₁) (perform catalogue call room₂)
-      unfolding perform
-      answered-alike fault call own =
-          let here = own-seat c call own in
-          let refused : refusal catalogue call room₁ ≡ refusal catalogue call room₂ =
-          refused-alike catalogue fault call room₁ room₂ sound₁ sound₂ (rw here (ap (λ (clinic : Clinic). clinic .seat) same)) in
-          rw refused (go here (refusal catalogue call room₂))
-        where
-          go : seatOf call ≡ c → (r : ℕ)
-              → Alike (unless r room₁ (done catalogue call room₁)) (unless r room₂ (done catalogue call room₂))
-          go here zero = done-alike call own here
-          go here (suc r) = (refl, same)
+    pub answered-alike : (answered room₁ ≡ answered room₂) × (leaves room₁ ≡ leaves room₂)
+    answered-alike = go (refusal catalogue (asks c asking) room₂) refl
+      where
+        go : (r : ℕ) → refusal catalogue (asks c asking) room₂ ≡ r → (answered room₁ ≡ answered room₂) × (leaves room₁ ≡ leaves room₂)
+        go zero e₂ =
+            let e₁ : refusal catalogue (asks c asking) room₁ ≡ 0 = refused-both ∙ e₂ in (
+              accepted-answer room₁ e₁
+                  ∙ ap (λ (clinic : Clinic). answerBy (kindOf asking (clinic .seat .choices)) clinic) same
+                  ∙ sym (accepted-answer room₂ e₂),
+              asking-leaves catalogue room₁ (sound₁ .eight) (sound₁ .board-length) c asking e₁
+                  ∙ ap (leftBy (catalogue .sizes) asking) same
+                  ∙ sym (asking-leaves catalogue room₂ (sound₂ .eight) (sound₂ .board-length) c asking e₂),
+            )
+        go (suc r) e₂ =
+            let e₁ : refusal catalogue (asks c asking) room₁ ≡ suc r = refused-both ∙ e₂ in
+            let out₁ = perform-refused catalogue (asks c asking) room₁ (λ z. omega (arith, z, e₁)) in
+            let out₂ = perform-refused catalogue (asks c asking) room₂ (λ z. omega (arith, z, e₂)) in (
+              ap (λ (o : Outcome). o .answer) out₁ ∙ ap refused refused-both ∙ sym (ap (λ (o : Outcome). o .answer) out₂),
+              ap (λ (o : Outcome). clinicAt (o .room) c) out₁ ∙ same ∙ sym (ap (λ (o : Outcome). clinicAt (o .room) c) out₂),
+            )

@@ -6,7 +6,7 @@ use mathlib.Core.List.{List}
 use native.Mathlib.Omega.{arith}
 use lib.ListN.{length}
 use borrow.Rule.Slice.PartMut.{midOf, putMid, post-is}
-use Rattle.search.specs.Clinic.{put}
+use Rattle.builds.specs.Lists.{put}
 use Rattle.runs.specs.Room.{shareAt}
 use Rattle.runs.proofs.WithClinic.{share-length}
 

@@ -1,32 +1,34 @@
 -- Calls and turns on a desk and board, from the top theorems down.
 --   SoundRuns: every room of a run is sound
+--   Postings: what each asking leaves of its clinic
 --   OthersStay: what a call for a seat, and a turn, leave alone
 --   Replayed: a clinic's answers and its record and share follow from its own calls and steps
 --   RingAhead: a seat at work is at most seven seats ahead, and each turn for another brings it nearer
 --   TurnsAdded: turns(u + v) is turns(u), then turns(v)
---   TurnsAnswered: the turns made are the steps given, and all that were asked for unless no seat is at work
+--   AnswerOfTurns: the turns made are the steps given, and all that were asked for unless no seat is at work
 --   ChecksPassed: in a sound room a call's refusal speaks of the named seat alone
 --   Settled: of each call any two outcomes that its contract allows are equal
 pub mod WithClinic
 pub mod LentShare
 pub mod Served
 pub mod Sound
-pub mod ArrayLengths
+pub mod DeskLengths
 pub mod ChecksPassed
 pub mod Performed
 pub mod AcceptedCalls
 pub mod OneSeat
+pub mod Postings
 pub mod NamedBounds
 pub mod Settled
 pub mod SoundRuns
 pub mod OthersStay
 pub mod TurnsAdded
-pub mod TurnsMade
-pub mod MadeTurns
+pub mod IdleTurns
+pub mod TurnByTurn
 pub mod StepsGiven
 pub mod AnsweredAlike
 pub mod Replayed
 pub mod RingAhead
-pub mod CallKinds
-pub mod TurnsAnswered
+pub mod CallsJoined
+pub mod AnswerOfTurns
 pub mod Computing

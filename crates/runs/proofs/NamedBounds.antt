@@ -7,13 +7,14 @@ use mathlib.Core.List.{List}
 use native.Mathlib.Omega.{arith}
 use lib.ListN.{length, replicate, length-replicate}
 use Rattle.builds.specs.Catalogue.{Catalogue, sizeOf}
-use Rattle.search.specs.declared.Seat.{Seat}
+use Rattle.builds.specs.Fault.{faultOf}
 use Rattle.search.proofs.PlaceBounds.{few-features, size-within}
 use Rattle.runs.specs.declared.Desk.{Desk}
-use Rattle.runs.specs.Room.{Room, seatAt}
-use Rattle.runs.specs.Call.{Call, seatOf, featureOf}
-use Rattle.runs.specs.Refusal.{refusal}
-use Rattle.runs.proofs.AcceptedCalls.{RowFor, AcceptedCall, accepted}
+use Rattle.runs.specs.declared.Asking.{Asking}
+use Rattle.runs.specs.Room.{Room}
+use Rattle.runs.specs.Call.{Call, asks}
+use Rattle.runs.specs.RefusalTable.{refusal}
+use Rattle.runs.proofs.AcceptedCalls.{Checked, checked, AcceptedAsking, accepted}
 
 -- the checks ask the length of the board alone, so that any board of the length will do
 abbrev pub someBoard : ℕ → List ℕ
@@ -23,26 +24,25 @@ module _ (catalogue : Catalogue) (desk : Desk) (n : ℕ) where
   abbrev pub anyRoom : Room
   anyRoom = record { desk = desk; board = someBoard n }
 
-  pub accepted-anyhow : {number : ℕ} (call : Call)
-      → ((board : List ℕ) → length board ≡ n → number ≡ refusal catalogue call (record { desk = desk; board = board }))
-      → number ≡ 0
-      → AcceptedCall catalogue call anyRoom (seatAt desk (seatOf call))
-  accepted-anyhow call found none = accepted catalogue call anyRoom (sym (found (someBoard n) (length-replicate n 0)) ∙ none)
+  -- a number that is the call's refusal on every board of the length
+  abbrev pub NumberOf : Call → ℕ → Type 0
+  NumberOf call number = (board : List ℕ) → length board ≡ n → number ≡ refusal catalogue call (record { desk = desk; board = board })
 
--- what the numbers are below that a call names, if it names a feature
-pub record FeatureBounds (catalogue : Catalogue) (c i : ℕ) : Type 0 where
-  pub seat-below : c < 8
-  pub feature-below : i < length (catalogue .sizes)
+  pub checked-anyhow : {number : ℕ} (call : Call) → NumberOf call number → number ≡ 0 → Checked catalogue anyRoom
+  checked-anyhow call found none = checked catalogue call anyRoom (sym (found (someBoard n) (length-replicate n 0)) ∙ none) .0
+
+  pub accepted-anyhow : {number : ℕ} (c : ℕ) (asking : Asking) → NumberOf (asks c asking) number → number ≡ 0
+      → AcceptedAsking catalogue c asking anyRoom
+  accepted-anyhow c asking found none = accepted catalogue c asking anyRoom (sym (found (someBoard n) (length-replicate n 0)) ∙ none)
+
+-- what the numbers are below where a feature is one of the catalogue's
+pub record FeatureBounds (catalogue : Catalogue) (i : ℕ) : Type 0 where
   pub feature-below-16 : i < 16
   pub size-at-most-16 : sizeOf catalogue i ≤ 16
 
-pub feature-bounds : {catalogue : Catalogue} {call : Call} {room : Room} {seat : Seat} → AcceptedCall catalogue call room seat
-    → RowFor 30 call → RowFor 34 call → FeatureBounds catalogue (seatOf call) (featureOf call)
-feature-bounds {catalogue} {call} passed names-seat names-feature =
-    let below = passed .feature-below names-feature in
+pub feature-bounds : {catalogue : Catalogue} {i : ℕ} → faultOf catalogue ≡ 0 → i < length (catalogue .sizes) → FeatureBounds catalogue i
+feature-bounds {catalogue} {i} fault below =
     record {
-      seat-below = passed .seat-below names-seat;
-      feature-below = below;
-      feature-below-16 = omega (arith, few-features catalogue (passed .faultless));
-      size-at-most-16 = size-within catalogue (passed .faultless) (featureOf call) below .1;
+      feature-below-16 = omega (arith, few-features catalogue fault);
+      size-at-most-16 = size-within catalogue fault i below .1;
     }

@@ -1,72 +1,71 @@
--- A call for a seat leaves every other clinic's record and share alone, and next; a turn gives the seat that it serves one
--- step, leaves every other clinic alone, and moves next on. Both write one clinic in its place, whose share keeps its length.
+-- An asking leaves its own clinic as `leftBy` says, every other clinic's record and share alone, and next; a turn gives the
+-- seat that it serves one step, leaves every other clinic alone, and moves next on. Both write one clinic in its place,
+-- whose share keeps its length.
 use Prim.Native.Nat.{ℕ, _<_}
 use mathlib.Core.Path.{_≡_, refl}
-use mathlib.Core.Bool.{false}
 use mathlib.Core.Option.{some}
-use mathlib.Core.List.{List, []}
-use lib.ListN.{length, set, length-replicate}
-use lib.Dec.{eqb}
-use borrow.Author.Tests.{eqb-false}
+use mathlib.Core.List.{List}
+use lib.ListN.{length, length-replicate}
 use Rattle.builds.specs.Catalogue.{Catalogue}
-use Rattle.builds.specs.Fault.{faultOf, member}
-use Rattle.search.specs.Clinic.{Clinic, closedClinic}
+use Rattle.builds.specs.Fault.{faultOf}
+use Rattle.search.specs.Clinic.{Clinic}
 use Rattle.search.specs.Step.{step, posted}
 use Rattle.search.proofs.StepFits.{step-fits}
-use Rattle.runs.specs.Room.{Room, clinicAt, withClinic}
-use Rattle.runs.specs.Call.{Call, enter, leave, choose, relax, options, example, turns, numbersOf, isOf}
+use Rattle.runs.specs.declared.Asking.{Asking}
+use Rattle.runs.specs.Room.{Room, seatAt, clinicAt, withClinic}
+use Rattle.runs.specs.Call.{asks}
 use Rattle.runs.specs.Turn.{seatAfter, served, turnFor, turn}
-use Rattle.runs.specs.Refusal.{refusal}
-use Rattle.runs.specs.Perform.{choicesOf, done, perform}
-use Rattle.runs.proofs.WithClinic.{with-same, with-other}
+use Rattle.runs.specs.RefusalTable.{refusal}
+use Rattle.runs.specs.Perform.{Kind, posts, leaves, reads, kindOf, byKind, leftBy, done, perform}
+use Rattle.runs.proofs.WithClinic.{share-length, with-same, with-other}
 use Rattle.runs.proofs.Served.{served-found}
 use Rattle.runs.proofs.Sound.{Sound}
-use Rattle.runs.proofs.Performed.{after-call}
+use Rattle.runs.proofs.Performed.{perform-accepted, after-call}
 use Rattle.runs.proofs.AcceptedCalls.{accepted}
 
-pub posted-bytes : (sizes choices : List ℕ) → length (posted sizes choices .share) ≡ 4096
+-- whatever the kind, a share keeps its length
+pub kind-bytes : (sizes : List ℕ) (kind : Kind) (clinic : Clinic) → length (clinic .share) ≡ 4096
+    → length (byKind sizes kind clinic .share) ≡ 4096
 unfolding posted
-posted-bytes sizes choices = length-replicate {A = ℕ} 4096 255
+kind-bytes sizes (posts choices) clinic full = length-replicate {A = ℕ} 4096 255
+kind-bytes sizes leaves clinic full = length-replicate {A = ℕ} 4096 255
+kind-bytes sizes (reads reading) clinic full = full
 
 module _
     (catalogue : Catalogue)
     (room : Room)
     (eight : length (room .desk .seats) ≡ 8)
     (board-length : length (room .board) ≡ 32768)
-    (d : ℕ)
+    (c : ℕ)
+    (asking : Asking)
   where
+    abbrev left : Clinic
+    left = leftBy (catalogue .sizes) asking (clinicAt room c)
+
+    left-bytes : c < 8 → length (left .share) ≡ 4096
+    left-bytes l =
+        kind-bytes (catalogue .sizes) (kindOf asking (seatAt (room .desk) c .choices)) (clinicAt room c)
+        (share-length (room .board) board-length c l)
+
+    -- what an accepted asking leaves of its own clinic
+    pub asking-leaves : refusal catalogue (asks c asking) room ≡ 0
+        → clinicAt (perform catalogue (asks c asking) room .room) c ≡ left
+    unfolding done
+    asking-leaves h =
+        let l : c < 8 = accepted catalogue c asking room h .seat-below in
+        rw (perform-accepted catalogue (asks c asking) room h)
+        (with-same room eight board-length c (room .desk .next) l left (left-bytes l))
+
     -- clinic d is as before, and next
-    abbrev Stays : Room → Type 0
-    Stays after = (clinicAt after d ≡ clinicAt room d) × (after .desk .next ≡ room .desk .next)
+    abbrev Stays : ℕ → Room → Type 0
+    Stays d after = (clinicAt after d ≡ clinicAt room d) × (after .desk .next ≡ room .desk .next)
 
-    changed-stays : (c : ℕ) → c < 8 → (clinic : Clinic) → length (clinic .share) ≡ 4096 → eqb d c ≡ false
-        → Stays (withClinic c (room .desk .next) clinic room)
-    unfolding withClinic
-    changed-stays c l clinic full other =
-        (with-other room eight board-length c (room .desk .next) l clinic full d (eqb-false d c other), refl)
-
-    posted-stays : (c : ℕ) → c < 8 → (choices : List ℕ) → eqb d c ≡ false
-        → Stays (withClinic c (room .desk .next) (posted (catalogue .sizes) choices) room)
-    posted-stays c l choices other =
-        changed-stays c l (posted (catalogue .sizes) choices) (posted-bytes (catalogue .sizes) choices) other
-
-    done-stays : (call : Call) → (numbersOf call ≡ [] → ⊥) → isOf d call ≡ false → refusal catalogue call room ≡ 0
-        → Stays (done catalogue call room .room)
-    unfolding done member
-    done-stays (enter c) named other h =
-        posted-stays c (accepted catalogue (enter c) room h .seat-below refl) (choicesOf room c) other
-    done-stays (leave c) named other h =
-        changed-stays c (accepted catalogue (leave c) room h .seat-below refl) closedClinic (length-replicate {A = ℕ} 4096 255) other
-    done-stays (choose c i a) named other h =
-        posted-stays c (accepted catalogue (choose c i a) room h .seat-below refl) (set (choicesOf room c) i a) other
-    done-stays (relax c i) named other h =
-        posted-stays c (accepted catalogue (relax c i) room h .seat-below refl) (set (choicesOf room c) i 255) other
-    done-stays (options c i) named other h = (refl, refl)
-    done-stays (example c i a) named other h = (refl, refl)
-    done-stays (turns w) named other h = absurd (named refl)
-
-    pub call-stays : (call : Call) → (numbersOf call ≡ [] → ⊥) → isOf d call ≡ false → Stays (perform catalogue call room .room)
-    call-stays call named other = after-call catalogue call room Stays (refl, refl) (done-stays call named other)
+    pub asking-stays : (d : ℕ) → (d ≡ c → ⊥) → Stays d (perform catalogue (asks c asking) room .room)
+    unfolding done withClinic
+    asking-stays d other =
+        after-call catalogue (asks c asking) room (Stays d) (refl, refl) (λ h.
+        let l : c < 8 = accepted catalogue c asking room h .seat-below in
+        (with-other room eight board-length c (room .desk .next) l left (left-bytes l) d other, refl))
 
 module _
     (catalogue : Catalogue)
@@ -100,17 +99,3 @@ module _
     pub turn-next : turn catalogue room .desk .next ≡ seatAfter c
     unfolding withClinic
     turn-next = rw turn-is refl
-
-module _
-    (catalogue : Catalogue)
-    (room : Room)
-    (eight : length (room .desk .seats) ≡ 8)
-    (board-length : length (room .board) ≡ 32768)
-    (c i : ℕ)
-    (l : c < 8)
-  where
-    pub relaxed : clinicAt (done catalogue (relax c i) room .room) c ≡ posted (catalogue .sizes) (set (choicesOf room c) i 255)
-    unfolding done
-    relaxed =
-        with-same room eight board-length c (room .desk .next) l (posted (catalogue .sizes) (set (choicesOf room c) i 255))
-        (posted-bytes (catalogue .sizes) (set (choicesOf room c) i 255))

@@ -4,10 +4,12 @@ use Prim.Native.Nat.{ℕ, zero, suc}
 use mathlib.Core.Path.{_≡_, refl, ap}
 use mathlib.Core.List.{List}
 use Rattle.builds.specs.Catalogue.{Catalogue}
-use Rattle.runs.specs.Room.{Room, freshDesk, emptyBoard}
-use Rattle.runs.specs.Call.{Call, enter, leave, choose, relax, options, example, turns, refused, plain}
-use Rattle.runs.specs.Refusal.{refusal, openRefusal}
-use Rattle.runs.specs.Perform.{Outcome, unless, done, perform, opening}
+use Rattle.search.specs.Clinic.{Clinic}
+use Rattle.runs.specs.declared.Reading.the-variants.{Options, Example}
+use Rattle.runs.specs.Room.{Room, seatAt, clinicAt, freshDesk, emptyBoard}
+use Rattle.runs.specs.Call.{Call, asks, turns, refused, plain}
+use Rattle.runs.specs.RefusalTable.{refusal, openRefusal}
+use Rattle.runs.specs.Perform.{Kind, posts, leaves, reads, kindOf, answerBy, Outcome, unless, done, perform, opening}
 
 module _ (room : Room) (outcome : Outcome) where
   unless-number : outcome .answer .number ≡ 0 → (r : ℕ) → unless r room outcome .answer .number ≡ r
@@ -18,15 +20,16 @@ module _ (room : Room) (outcome : Outcome) where
   unless-refused zero some-number = absurd (some-number refl)
   unless-refused (suc r) some-number = refl
 
+kind-number : (kind : Kind) (clinic : Clinic) → answerBy kind clinic .number ≡ 0
+kind-number (posts choices) clinic = refl
+kind-number leaves clinic = refl
+kind-number (reads (Options i)) clinic = refl
+kind-number (reads (Example i a)) clinic = refl
+
 module _ (catalogue : Catalogue) where
   done-number : (call : Call) (room : Room) → done catalogue call room .answer .number ≡ 0
   unfolding done
-  done-number (enter c) room = refl
-  done-number (leave c) room = refl
-  done-number (choose c i a) room = refl
-  done-number (relax c i) room = refl
-  done-number (options c i) room = refl
-  done-number (example c i a) room = refl
+  done-number (asks c asking) room = kind-number (kindOf asking (seatAt (room .desk) c .choices)) (clinicAt room c)
   done-number (turns w) room = refl
 
   module _ (call : Call) (room : Room) where

@@ -6,6 +6,7 @@ use mathlib.Core.Path.{_≡_, refl, sym, ap}
 use mathlib.Core.Bool.{Bool, true, false, cond}
 use mathlib.Core.List.{List, [], _∷_, map}
 use native.Mathlib.Omega.{arith}
+use borrow.Author.Tests.{eqb-true}
 use Rattle.builds.specs.Catalogue.{Catalogue}
 use Rattle.builds.specs.Fault.{faultOf}
 use Rattle.search.specs.Clinic.{Clinic}
@@ -13,9 +14,9 @@ use Rattle.search.specs.Step.{steps}
 use Rattle.search.proofs.ClinicFits.{ClinicFits}
 use Rattle.search.proofs.StepsAdded.{steps-added}
 use Rattle.runs.specs.Room.{Room, clinicAt, withClinic, freshDesk, emptyBoard}
-use Rattle.runs.specs.Call.{Call, Answer, isOf}
+use Rattle.runs.specs.Call.{Call, asks, turns, Answer, isOf}
 use Rattle.runs.specs.Perform.{perform}
-use Rattle.runs.specs.Run.{afterCalls, given, Own, stepsFirst, side}
+use Rattle.runs.specs.Run.{afterCalls, given, stepsFirst, side}
 use Rattle.runs.proofs.WithClinic.{with-same}
 use Rattle.runs.proofs.Sound.{Sound, with-clinic-sound, fresh-sound}
 use Rattle.runs.proofs.SoundRuns.{call-sound}
@@ -44,11 +45,15 @@ replayedClinic catalogue c [] clinic = clinic
 replayedClinic catalogue c ((call, n) ∷ calls) clinic =
     replayedClinic catalogue c calls (steps catalogue n (clinicAfter catalogue c call clinic))
 
+-- an entry of a clinic's side of a run: its call with the steps after it, and the answer
+abbrev Own : Type 0
+Own = (Call × ℕ) × Answer
+
 abbrev pub callAndSteps : Own → Call × ℕ
-callAndSteps own = (own .call, own .stepsAfter)
+callAndSteps own = own .0
 
 abbrev pub answerOf : Own → Answer
-answerOf own = own .answer
+answerOf own = own .1
 
 module _ (catalogue : Catalogue) (fault : faultOf catalogue ≡ 0) (c : ℕ) (l : c < 8) where
   module _ (clinic : Clinic) (fits : ClinicFits catalogue clinic) where
@@ -68,10 +73,13 @@ module _ (catalogue : Catalogue) (fault : faultOf catalogue ≡ 0) (c : ℕ) (l 
       → (perform catalogue call room .answer ≡ answerTo catalogue c call (clinicAt room c))
       × (clinicAt (perform catalogue call room .room) c ≡ clinicAfter catalogue c call (clinicAt room c))
   unfolding answerTo clinicAfter
-  own-call room sound call own =
+  own-call room sound (asks d asking) own =
       let fits = sound .clinics-fit c l in
-      answered-alike catalogue c l room (alone c (clinicAt room c)) sound (alone-sound (clinicAt room c) fits)
-      (sym (alone-clinic (clinicAt room c) fits)) fault call own
+      let here : d ≡ c = sym (eqb-true c d own) in
+      rw here
+      (answered-alike catalogue fault c asking room (alone c (clinicAt room c)) sound (alone-sound (clinicAt room c) fits)
+      (sym (alone-clinic (clinicAt room c) fits)))
+  own-call room sound (turns w) own = let z : _≡_ {A = ℕ} 0 1 = cc in absurd (omega arith)
 
   -- the answers and the end of a clinic's side of a run are those of the replay, from a clinic as it is at its first call
   abbrev Replays : List Own → Clinic → Clinic → Type 0
@@ -84,11 +92,7 @@ module _ (catalogue : Catalogue) (fault : faultOf catalogue ≡ 0) (c : ℕ) (l 
     after = perform catalogue call room .room
 
     abbrev here : Own
-    here = record {
-      call = call;
-      answer = perform catalogue call room .answer;
-      stepsAfter = stepsFirst catalogue c calls after;
-    }
+    here = ((call, stepsFirst catalogue c calls after), perform catalogue call room .answer)
 
     one-more : Replays (side catalogue c calls after) (steps catalogue (stepsFirst catalogue c calls after) (clinicAt after c))
         (clinicAt (afterCalls catalogue calls after) c)

@@ -8,8 +8,11 @@ use Rattle.builds.specs.Catalogue.{Catalogue}
 use Rattle.runs.specs.declared.answers.Changed.{Changed}
 use Rattle.runs.specs.declared.answers.Left.{Left}
 use Rattle.runs.specs.declared.answers.Turned.{Turned}
+use Rattle.runs.specs.declared.Asking.{Asking}
+use Rattle.runs.specs.declared.Asking.the-variants.{Read}
+use Rattle.runs.specs.declared.Reading.the-variants.{Options, Example}
 use Rattle.runs.specs.Room.{Room}
-use Rattle.runs.specs.Call.{enter, leave, choose, relax, options, example, turns}
+use Rattle.runs.specs.Call.{asks, turns, Answer}
 use Rattle.runs.specs.Answers.{ChangesTo, ReadsAs, TurnsTo, exampleBegins}
 use Rattle.runs.specs.Perform.{Outcome, perform, opening}
 
@@ -55,33 +58,26 @@ pub open-settled : (catalogue : Catalogue) (board : List ℕ) → SettledWithBoa
 open-settled catalogue board = one-change (opening catalogue board)
 
 module _ (catalogue : Catalogue) (room : Room) (c : ℕ) where
-  pub enter-settled : SettledWithBoard (ChangesTo (perform catalogue (enter c) room))
-  enter-settled = one-change (perform catalogue (enter c) room)
+  -- enter, leave, choose, relax
+  pub asking-settled : (asking : Asking) → SettledWithBoard (ChangesTo (perform catalogue (asks c asking) room))
+  asking-settled asking = one-change (perform catalogue (asks c asking) room)
 
-  pub leave-settled : SettledWithBoard (ChangesTo (perform catalogue (leave c) room))
-  leave-settled = one-change (perform catalogue (leave c) room)
+  pub options-settled : (i : ℕ) → Settled (ReadsAs (perform catalogue (asks c (Read (Options i))) room) room)
+  options-settled i = one-reading (perform catalogue (asks c (Read (Options i))) room) room
 
-  module _ (i : ℕ) where
-    pub relax-settled : SettledWithBoard (ChangesTo (perform catalogue (relax c i) room))
-    relax-settled = one-change (perform catalogue (relax c i) room)
+  module _ (i a : ℕ) where
+    abbrev exampled : Answer
+    exampled = perform catalogue (asks c (Read (Example i a))) room .answer
 
-    pub options-settled : Settled (ReadsAs (perform catalogue (options c i) room) room)
-    options-settled = one-reading (perform catalogue (options c i) room) room
+    -- the bytes that example hands out, where they stand, and the number
+    pub example-settled : Settled (λ (r : List ℕ). r ≡ exampled .bytes)
+    example-settled = one-value (exampled .bytes)
 
-    module _ (a : ℕ) where
-      pub choose-settled : SettledWithBoard (ChangesTo (perform catalogue (choose c i a) room))
-      choose-settled = one-change (perform catalogue (choose c i a) room)
+    pub example-place-settled : (board : ℕ × ℕ) → Settled (λ (r : ℕ × ℕ). r ≡ exampleBegins board (exampled .number) c i a)
+    example-place-settled board = one-value (exampleBegins board (exampled .number) c i a)
 
-      -- the bytes that example hands out, where they stand, and the number
-      pub example-settled : Settled (λ (r : List ℕ). r ≡ perform catalogue (example c i a) room .answer .bytes)
-      example-settled = one-value (perform catalogue (example c i a) room .answer .bytes)
-
-      pub example-place-settled : (board : ℕ × ℕ)
-          → Settled (λ (r : ℕ × ℕ). r ≡ exampleBegins board (perform catalogue (example c i a) room .answer .number) c i a)
-      example-place-settled board = one-value (exampleBegins board (perform catalogue (example c i a) room .answer .number) c i a)
-
-      pub example-number-settled : Settled (λ (r : ℕ). r ≡ perform catalogue (example c i a) room .answer .number)
-      example-number-settled = one-value (perform catalogue (example c i a) room .answer .number)
+    pub example-number-settled : Settled (λ (r : ℕ). r ≡ exampled .number)
+    example-number-settled = one-value (exampled .number)
 
 pub turns-settled : (catalogue : Catalogue) (room : Room) (w : ℕ) → SettledWithBoard (TurnsTo (perform catalogue (turns w) room))
 turns-settled catalogue room w = one-turning (perform catalogue (turns w) room)

@@ -16,13 +16,14 @@ use Rattle.builds.specs.Catalogue.{Catalogue}
 use Rattle.builds.specs.Fault.{faultOf}
 use Rattle.search.specs.declared.Seat.{Seat}
 use Rattle.search.specs.Clinic.{Clinic, noSeat}
-use Rattle.search.specs.Fit.{everyBelow, seatFits}
+use Rattle.builds.specs.Lists.{everyBelow}
+use Rattle.search.specs.RecordFits.{seatFits}
 use Rattle.search.specs.Step.{step}
-use Rattle.search.proofs.Fits.{every-below, below-every}
+use Rattle.search.proofs.FitsInWords.{every-below, below-every}
 use Rattle.search.proofs.ClinicFits.{ClinicFits, Sixteen, record-fits, other-share, closed-fits}
 use Rattle.search.proofs.StepFits.{step-fits}
 use Rattle.runs.specs.Room.{Room, seatAt, shareAt, clinicAt, withClinic, freshDesk, emptyBoard}
-use Rattle.runs.specs.Fit.{deskFits}
+use Rattle.runs.specs.DeskFits.{deskFits}
 use Rattle.runs.specs.Turn.{served, turnFor, turn, afterTurns}
 use Rattle.runs.proofs.WithClinic.{share-length, fresh-clinic, with-eight, with-board-length}
 use Rattle.runs.proofs.Served.{served-found}

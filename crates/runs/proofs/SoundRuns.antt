@@ -1,30 +1,34 @@
 -- Every room of a run is sound: the one that an accepted opening leaves is, and every call, refused or not, keeps a room
--- sound. For a call changes one clinic to a closed one or to a job posted under choices that fit, or makes turns.
+-- sound. For an asking leaves its clinic closed, as it was, or with a job posted under choices that fit; or turns are made.
 use Prim.Native.Nat.{ℕ, _<_}
 use mathlib.Core.Path.{_≡_, refl, _∙_}
 use mathlib.Core.Bool.{Bool, true, false}
 use mathlib.Core.List.{List, [], _∷_}
 use native.Mathlib.Omega.{arith}
-use lib.ListN.{length, getD, set, length-set}
+use lib.ListN.{length, getD, set, length-set, length-replicate}
 use lib.Seq.{getD-set-same, getD-set-other}
 use lib.Dec.{eqb}
 use borrow.Author.Tests.{eqb-true, eqb-false}
 use Rattle.builds.specs.Catalogue.{Catalogue, sizeOf}
-use Rattle.builds.specs.Fault.{faultOf, member}
-use Rattle.search.specs.Clinic.{Clinic, closedClinic}
-use Rattle.search.specs.Step.{posted}
-use Rattle.search.proofs.Fits.{seat-fits}
+use Rattle.builds.specs.Checks.{first}
+use Rattle.builds.specs.Lists.{member}
+use Rattle.builds.specs.Fault.{faultOf}
+use Rattle.builds.proofs.Padded.{nothing-there}
+use Rattle.search.specs.Clinic.{Clinic}
+use Rattle.search.proofs.FitsInWords.{seat-fits}
 use Rattle.search.proofs.CandidatesBelow.{ChoicesWithin}
 use Rattle.search.proofs.ClinicFits.{ClinicFits, closed-fits}
 use Rattle.search.proofs.StepFits.{posted-fits}
-use Rattle.runs.specs.Room.{Room, seatAt, withClinic}
-use Rattle.runs.specs.Call.{Call, enter, leave, choose, relax, options, example, turns}
-use Rattle.runs.specs.Refusal.{refusal, openRefusal}
-use Rattle.runs.specs.Perform.{choicesOf, done, perform, opening}
+use Rattle.runs.specs.declared.Asking.{Asking}
+use Rattle.runs.specs.declared.Asking.the-variants.{Enter, Leave, Choose, Relax, Read}
+use Rattle.runs.specs.Room.{Room, seatAt, clinicAt}
+use Rattle.runs.specs.Call.{Call, asks, turns}
+use Rattle.runs.specs.RefusalTable.{askedRows, refusal, openRefusal}
+use Rattle.runs.specs.Perform.{Kind, posts, leaves, reads, kindOf, byKind, leftBy, done, perform, opening}
 use Rattle.runs.specs.Run.{afterCalls}
 use Rattle.runs.proofs.Sound.{Sound, with-clinic-sound, fresh-sound, turns-sound}
 use Rattle.runs.proofs.Performed.{after-call, opening-accepted}
-use Rattle.runs.proofs.AcceptedCalls.{accepted}
+use Rattle.runs.proofs.AcceptedCalls.{choose-passed, AcceptedAsking, accepted}
 
 -- one more choice that fits, or one dropped
 set-within : (catalogue : Catalogue) (choices : List ℕ) → length choices ≡ 16 → ChoicesWithin catalogue choices
@@ -37,44 +41,53 @@ set-within catalogue choices full within i a fits f l = go (eqb f i) refl
         rw (same, getD-set-same choices i a 255 (omega arith)) fits
     go false h = rw (getD-set-other choices i f a 255 (eqb-false f i h)) (within f l)
 
-module _ (catalogue : Catalogue) (fault : faultOf catalogue ≡ 0) (room : Room) (sound : Sound catalogue room) where
-  -- a clinic that fits, put in the place of seat c by a call
-  changed-sound : (c : ℕ) → c < 8 → (clinic : Clinic) → ClinicFits catalogue clinic
-      → Sound catalogue (withClinic c (room .desk .next) clinic room)
-  changed-sound c l clinic fits = with-clinic-sound catalogue room sound c (room .desk .next) l (sound .next-below) clinic fits
+-- the choices that a kind of asking posts a job under, if it posts one, fit
+abbrev PostsWithin : Catalogue → Kind → Type 0
+PostsWithin catalogue (posts choices) = (length choices ≡ 16) × ChoicesWithin catalogue choices
+PostsWithin catalogue leaves = Unit {0}
+PostsWithin catalogue (reads reading) = Unit {0}
 
-  choices-full : (c : ℕ) → c < 8 → length (choicesOf room c) ≡ 16
-  choices-full c l = sound .clinics-fit c l .all-choices
+module _ (catalogue : Catalogue) (fault : faultOf catalogue ≡ 0) where
+  kind-fits : (kind : Kind) (clinic : Clinic) → PostsWithin catalogue kind → ClinicFits catalogue clinic
+      → ClinicFits catalogue (byKind (catalogue .sizes) kind clinic)
+  kind-fits (posts choices) clinic within fits = posted-fits catalogue fault choices (within .0) (within .1)
+  kind-fits leaves clinic within fits = closed-fits catalogue
+  kind-fits (reads reading) clinic within fits = fits
 
-  choices-within : (c : ℕ) → c < 8 → ChoicesWithin catalogue (choicesOf room c)
-  choices-within c l = seat-fits catalogue (seatAt (room .desk) c) (sound .clinics-fit c l .fits) .choice-below
+  module _ (room : Room) (sound : Sound catalogue room) where
+    posts-within : (c : ℕ) (asking : Asking) → AcceptedAsking catalogue c asking room
+        → PostsWithin catalogue (kindOf asking (seatAt (room .desk) c .choices))
+    unfolding member
+    posts-within c asking call = go asking (call .rows)
+      where
+        one-set : (i a : ℕ) → ((a ≡ 255 → ⊥) → a < sizeOf catalogue i) → PostsWithin catalogue (posts (set (seatAt (room .desk) c .choices) i a))
+        one-set i a option =
+            let fits = sound .clinics-fit c (call .seat-below) in (
+              length-set (seatAt (room .desk) c .choices) i a ∙ fits .all-choices,
+              set-within catalogue (seatAt (room .desk) c .choices) (fits .all-choices)
+                  (seat-fits catalogue (seatAt (room .desk) c) (fits .fits) .choice-below) i a option,
+            )
 
-  choice-sound : (c i a : ℕ) → c < 8 → ((a ≡ 255 → ⊥) → a < sizeOf catalogue i)
-      → Sound catalogue (withClinic c (room .desk .next) (posted (catalogue .sizes) (set (choicesOf room c) i a)) room)
-  choice-sound c i a l option =
-      changed-sound c l (posted (catalogue .sizes) (set (choicesOf room c) i a))
-      (posted-fits catalogue fault (set (choicesOf room c) i a)
-      (length-set (choicesOf room c) i a ∙ choices-full c l)
-      (set-within catalogue (choicesOf room c) (choices-full c l) (choices-within c l) i a option))
+        go : (asking : Asking) → first (askedRows (catalogue .sizes) (seatAt (room .desk) c) asking) ≡ 0
+            → PostsWithin catalogue (kindOf asking (seatAt (room .desk) c .choices))
+        go Enter h = (length-replicate {A = ℕ} 16 255, λ f l chosen. absurd (chosen (nothing-there 16 f)))
+        go Leave h = tt
+        go (Choose i a) h = one-set i a (λ (chosen : a ≡ 255 → ⊥). choose-passed (catalogue .sizes) (seatAt (room .desk) c) h .option-below refl)
+        go (Relax i) h = one-set i 255 (λ chosen. absurd (chosen refl))
+        go (Read reading) h = tt
 
-  done-sound : (call : Call) → refusal catalogue call room ≡ 0 → Sound catalogue (done catalogue call room .room)
-  unfolding done member
-  done-sound (enter c) h =
-      let l : c < 8 = accepted catalogue (enter c) room h .seat-below refl in
-      changed-sound c l (posted (catalogue .sizes) (choicesOf room c))
-      (posted-fits catalogue fault (choicesOf room c) (choices-full c l) (choices-within c l))
-  done-sound (leave c) h = changed-sound c (accepted catalogue (leave c) room h .seat-below refl) closedClinic (closed-fits catalogue)
-  done-sound (choose c i a) h =
-      let call = accepted catalogue (choose c i a) room h in
-      choice-sound c i a (call .seat-below refl) (λ (chosen : a ≡ 255 → ⊥). call .option-below refl)
-  done-sound (relax c i) h =
-      choice-sound c i 255 (accepted catalogue (relax c i) room h .seat-below refl) (λ chosen. absurd (chosen refl))
-  done-sound (options c i) h = sound
-  done-sound (example c i a) h = sound
-  done-sound (turns w) h = turns-sound catalogue fault w room sound
+    done-sound : (call : Call) → refusal catalogue call room ≡ 0 → Sound catalogue (done catalogue call room .room)
+    unfolding done
+    done-sound (asks c asking) h =
+        let call = accepted catalogue c asking room h in
+        with-clinic-sound catalogue room sound c (room .desk .next) (call .seat-below) (sound .next-below)
+        (leftBy (catalogue .sizes) asking (clinicAt room c))
+        (kind-fits (kindOf asking (seatAt (room .desk) c .choices)) (clinicAt room c) (posts-within c asking call)
+        (sound .clinics-fit c (call .seat-below)))
+    done-sound (turns w) h = turns-sound catalogue fault w room sound
 
-  pub call-sound : (call : Call) → Sound catalogue (perform catalogue call room .room)
-  call-sound call = after-call catalogue call room (Sound catalogue) sound (done-sound call)
+    pub call-sound : (call : Call) → Sound catalogue (perform catalogue call room .room)
+    call-sound call = after-call catalogue call room (Sound catalogue) sound (done-sound call)
 
 module _ (catalogue : Catalogue) where
   pub calls-sound : faultOf catalogue ≡ 0 → (calls : List Call) (room : Room) → Sound catalogue room

@@ -11,17 +11,16 @@ use Rattle.builds.specs.Fault.{faultOf}
 use Rattle.search.specs.Step.{steps}
 use Rattle.search.proofs.StepsAdded.{steps-added}
 use Rattle.runs.specs.Room.{Room, clinicAt}
-use Rattle.runs.specs.Call.{Call, turns, isOf}
+use Rattle.runs.specs.Call.{Call, asks, turns, isOf}
 use Rattle.runs.specs.Turn.{served, is, turn, afterTurns, stepsGiven}
 use Rattle.runs.specs.Perform.{perform}
 use Rattle.runs.specs.Run.{given, taken}
 use Rattle.runs.proofs.Sound.{Sound, turn-sound}
 use Rattle.runs.proofs.ChecksPassed.{turns-accepted}
 use Rattle.runs.proofs.Performed.{perform-number}
-use Rattle.runs.proofs.OthersStay.{call-stays, turn-steps, turn-stays}
+use Rattle.runs.proofs.OthersStay.{asking-stays, turn-steps, turn-stays}
 use Rattle.runs.proofs.TurnsAdded.{turns-performed}
-use Rattle.runs.proofs.TurnsMade.{idle-turn}
-use Rattle.runs.proofs.CallKinds.{Kind, of-turns, of-a-seat, kind}
+use Rattle.runs.proofs.IdleTurns.{idle-turn}
 
 no-turn-asked : (taken : Bool) → _≡_ {A = ℕ} (cond taken 0 0) 0
 no-turn-asked true = refl
@@ -53,20 +52,13 @@ module _ (catalogue : Catalogue) (fault : faultOf catalogue ≡ 0) (c : ℕ) whe
       ∙ ap (steps catalogue later) (one-turn room sound)
       ∙ sym (steps-added catalogue first later (clinicAt room c))
 
-  module _ (room : Room) (sound : Sound catalogue room) where
-    abbrev StepsBy : Call → Type 0
-    StepsBy call =
-        clinicAt (perform catalogue call room .room) c ≡ steps catalogue (given catalogue c call room) (clinicAt room c)
-
-    by-kind : {call : Call} → Kind call → isOf c call ≡ false → StepsBy call
-    unfolding stepsGiven steps
-    by-kind (of-turns w) other =
-        let taken = turns-accepted catalogue fault room sound w in
-        rw (perform-number catalogue (turns w) room, turns-performed catalogue room w taken, taken) (turns-step w room sound)
-    by-kind {call} (of-a-seat named asks-none) other =
-        rw (asks-none, no-turn-asked (taken catalogue call room))
-        (call-stays catalogue room (sound .eight) (sound .board-length) c call named other .0)
-
-    -- what a call that isn't its own does to a clinic: it gives it steps, or none
-    pub others-step : (call : Call) → isOf c call ≡ false → StepsBy call
-    others-step call = by-kind (kind call)
+  -- what a call that isn't its own does to a clinic: it gives it steps, or none
+  pub others-step : (room : Room) → Sound catalogue room → (call : Call) → isOf c call ≡ false
+      → clinicAt (perform catalogue call room .room) c ≡ steps catalogue (given catalogue c call room) (clinicAt room c)
+  unfolding stepsGiven steps
+  others-step room sound (asks d asking) other =
+      rw (no-turn-asked (taken catalogue (asks d asking) room))
+      (asking-stays catalogue room (sound .eight) (sound .board-length) d asking c (eqb-false c d other) .0)
+  others-step room sound (turns w) other =
+      let taken = turns-accepted catalogue fault room sound w in
+      rw (perform-number catalogue (turns w) room, turns-performed catalogue room w taken, taken) (turns-step w room sound)

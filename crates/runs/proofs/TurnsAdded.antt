@@ -10,13 +10,13 @@ use Rattle.builds.specs.Fault.{faultOf}
 use Rattle.runs.specs.Room.{Room, seatAt}
 use Rattle.runs.specs.Call.{turns}
 use Rattle.runs.specs.Turn.{turn, afterTurns}
-use Rattle.runs.specs.Refusal.{refusal}
+use Rattle.runs.specs.RefusalTable.{refusal}
 use Rattle.runs.specs.Perform.{Outcome, done, perform}
 use Rattle.search.proofs.ClinicFits.{Sixteen}
 use Rattle.runs.proofs.Sound.{Sound, fits-sound, turns-sound}
 use Rattle.runs.proofs.ChecksPassed.{turns-accepted}
 use Rattle.runs.proofs.Performed.{perform-accepted, perform-refused}
-use Rattle.runs.proofs.AcceptedCalls.{accepted}
+use Rattle.runs.proofs.AcceptedCalls.{checked}
 
 pub after-turns-add : (catalogue : Catalogue) (u v : ℕ) (room : Room)
     → afterTurns catalogue (u + v) room ≡ afterTurns catalogue v (afterTurns catalogue u room)
@@ -49,7 +49,7 @@ module _ (catalogue : Catalogue) (room : Room) where
           → perform catalogue (turns (u + v)) room .room
           ≡ perform catalogue (turns v) (perform catalogue (turns u) room .room) .room
       go zero e =
-          let call = accepted catalogue (turns u) room e in
+          let call = checked catalogue (turns u) room e .0 in
           let fault : faultOf catalogue ≡ 0 = call .faultless in
           let sound : Sound catalogue room = fits-sound catalogue room eight board-length sixteen (call .desk-fits) in
           let later : Room = afterTurns catalogue u room in

@@ -1,15 +1,16 @@
 -- A room in which one clinic's record and share are replaced: that clinic is the new one, every other is as before, and
--- desk and board keep their lengths. For the seats' shares lie side by side on the board.
+-- desk and board keep their lengths. For the seats' shares lie side by side on the board. Replaced by itself, all is as it was.
 use Prim.Native.Nat.{ℕ, _+_, _-_, _*_, _≤_, _<_}
-use mathlib.Core.Path.{_≡_, refl, ap, _∙_}
+use mathlib.Core.Path.{_≡_, refl, sym, ap, _∙_}
 use mathlib.Core.Bool.{Bool, true, false}
 use mathlib.Core.List.{List}
 use native.Mathlib.Omega.{arith}
-use lib.ListN.{length, take, drop, length-set, length-drop, getD-replicate}
-use lib.Seq.{length-take-le, getD-set-same, getD-set-other}
+use lib.ListN.{length, take, drop, length-set, length-drop, getD-replicate, take-append-drop}
+use lib.Seq.{length-take-le, getD-set-same, getD-set-other, set-getD, drop-drop}
 use lib.Dec.{ltb}
 use borrow.Author.Tests.{ltb-true, ltb-false}
-use Rattle.search.specs.Clinic.{Clinic, noSeat, closedSeat, closedClinic, emptyShare, put}
+use Rattle.builds.specs.Lists.{put}
+use Rattle.search.specs.Clinic.{Clinic, noSeat, closedSeat, closedClinic, emptyShare}
 use Rattle.search.proofs.ExamplePlaces.{put-length, put-same, put-before, put-after, read-replicate}
 use Rattle.runs.specs.Room.{Room, seatAt, shareAt, clinicAt, withClinic, freshDesk, emptyBoard}
 
@@ -76,3 +77,18 @@ module _
         getD-set-other (room .desk .seats) c d (clinic .seat) noSeat other in
         let share = share-other d other in
         cc
+
+pub with-own : (room : Room) → length (room .board) ≡ 32768 → (c : ℕ) → c < 8
+    → withClinic c (room .desk .next) (clinicAt room c) room ≡ room
+unfolding withClinic put shareAt
+with-own room board-length c l =
+    let place : ℕ = c * 4096 in
+    let full : length (shareAt (room .board) c) ≡ 4096 = share-length (room .board) board-length c l in
+    let rest : drop (place + length (shareAt (room .board) c)) (room .board) ≡ drop 4096 (drop place (room .board)) =
+    rw full (sym (drop-drop 4096 place (room .board))) in
+    rw (
+      set-getD (room .desk .seats) c noSeat,
+      rest,
+      take-append-drop 4096 (drop place (room .board)),
+      take-append-drop place (room .board),
+    ) refl

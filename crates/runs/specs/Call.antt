@@ -1,46 +1,18 @@
--- The calls and their answers. Every call takes any numbers.
+-- The calls and their answers. Every call takes any numbers. A call is a seat's asking, or turns.
 use Prim.Native.Nat.{ℕ}
 use mathlib.Core.Bool.{Bool, false}
-use mathlib.Core.List.{List, [], _∷_}
-use lib.ListN.{getD}
+use mathlib.Core.List.{List, []}
 use lib.Dec.{eqb}
+use Rattle.runs.specs.declared.Asking.{Asking}
 
 pub data Call : Type 0 where
-  enter : (seat : ℕ) → Call
-  leave : (seat : ℕ) → Call
-  choose : (seat feature option : ℕ) → Call
-  relax : (seat feature : ℕ) → Call
-  options : (seat feature : ℕ) → Call
-  -- answered by two functions: one gives the bytes, the other the number
-  example : (seat feature option : ℕ) → Call
+  asks : (seat : ℕ) (asking : Asking) → Call
   turns : (w : ℕ) → Call
 
--- the seat, the feature and the option that a call names
-abbrev pub numbersOf : Call → List ℕ
-numbersOf (enter c) = c ∷ []
-numbersOf (leave c) = c ∷ []
-numbersOf (choose c i a) = c ∷ i ∷ a ∷ []
-numbersOf (relax c i) = c ∷ i ∷ []
-numbersOf (options c i) = c ∷ i ∷ []
-numbersOf (example c i a) = c ∷ i ∷ a ∷ []
-numbersOf (turns w) = []
-
-abbrev pub seatOf : Call → ℕ
-seatOf call = getD (numbersOf call) 0 0
-
-abbrev pub featureOf : Call → ℕ
-featureOf call = getD (numbersOf call) 1 0
-
-abbrev pub optionOf : Call → ℕ
-optionOf call = getD (numbersOf call) 2 0
-
 -- a clinic's calls are those that name its seat
-abbrev pub beginsWith : ℕ → List ℕ → Bool
-beginsWith c [] = false
-beginsWith c (x ∷ xs) = eqb c x
-
 abbrev pub isOf : ℕ → Call → Bool
-isOf c call = beginsWith c (numbersOf call)
+isOf c (asks d asking) = eqb c d
+isOf c (turns w) = false
 
 -- The refusal number, 0 for none; the mask of a feature and how many bits are set in it; the bytes of an example;
 -- turns made, and whether a seat is still at work. What a call does not answer is 0, no bytes, no seat at work.

@@ -1,9 +1,9 @@
 -- What a reader of this crate must believe, lowest first.
 pub mod Room
-pub mod Fit
+pub mod DeskFits
 pub mod Call
 pub mod Turn
-pub mod Refusal
+pub mod RefusalTable
 pub mod Perform
 pub mod Run
 pub mod Answers

@@ -4,30 +4,46 @@ use mathlib.Core.Bool.{Bool, false}
 use mathlib.Core.List.{List, []}
 use lib.ListN.{set}
 use Rattle.builds.specs.Catalogue.{Catalogue, catalogueOf}
-use Rattle.search.specs.Bits.{bitCount}
+use Rattle.search.specs.Bits.{bitsBelow}
 use Rattle.search.specs.Look.{maskOf}
-use Rattle.search.specs.Clinic.{Clinic, closedClinic, exampleIn}
+use Rattle.search.specs.Clinic.{Clinic, nothing16, closedClinic, exampleIn}
 use Rattle.search.specs.Step.{posted}
 use Rattle.runs.specs.declared.Desk.{Desk}
-use Rattle.runs.specs.Room.{Room, roomOf, seatAt, shareAt, withClinic, freshDesk, emptyBoard}
-use Rattle.runs.specs.Call.{Call, enter, leave, choose, relax, options, example, turns, Answer, refused, plain}
+use Rattle.runs.specs.declared.Asking.{Asking}
+use Rattle.runs.specs.declared.Asking.the-variants.{Enter, Leave, Choose, Relax, Read}
+use Rattle.runs.specs.declared.Reading.{Reading}
+use Rattle.runs.specs.declared.Reading.the-variants.{Options, Example}
+use Rattle.runs.specs.Room.{Room, roomOf, clinicAt, withClinic, freshDesk, emptyBoard}
+use Rattle.runs.specs.Call.{Call, asks, turns, Answer, refused, plain}
 use Rattle.runs.specs.Turn.{served, isSome, afterTurns, turnsMade}
-use Rattle.runs.specs.Refusal.{openRefusal, refusal}
+use Rattle.runs.specs.RefusalTable.{openRefusal, refusal}
 
--- a call's answer, with desk and board as it leaves them
-pub record Outcome : Type 0 where
-  pub answer : Answer
-  pub room : Room
+-- What an asking is in a run: it posts a job under these choices, it leaves, or it reads.
+pub data Kind : Type 0 where
+  posts : (choices : List ℕ) → Kind
+  leaves : Kind
+  reads : (reading : Reading) → Kind
 
--- clinic c alone is changed, and no turn is made
-abbrev pub changed : ℕ → Clinic → Room → Outcome
-changed c clinic room = record { answer = plain; room = withClinic c (room .desk .next) clinic room }
+-- By the choices in force before it: enter begins with none, choose sets one, relax drops one.
+abbrev pub kindOf : Asking → List ℕ → Kind
+kindOf Enter before = posts nothing16
+kindOf Leave before = leaves
+kindOf (Choose i a) before = posts (set before i a)
+kindOf (Relax i) before = posts (set before i 255)
+kindOf (Read reading) before = reads reading
 
-abbrev pub choicesOf : Room → ℕ → List ℕ
-choicesOf room c = seatAt (room .desk) c .choices
+-- What an accepted asking makes of a clinic's record and share, by its kind.
+abbrev pub byKind : List ℕ → Kind → Clinic → Clinic
+byKind sizes (posts choices) clinic = posted sizes choices
+byKind sizes leaves clinic = closedClinic
+byKind sizes (reads reading) clinic = clinic
+
+-- the same by the asking itself, as laws and the code's contracts say it
+abbrev pub leftBy : List ℕ → Asking → Clinic → Clinic
+leftBy sizes asking clinic = byKind sizes (kindOf asking (clinic .seat .choices)) clinic
 
 abbrev pub optionsAnswer : ℕ → Answer
-optionsAnswer mask = record { number = 0; mask = mask; count = bitCount mask; bytes = []; made = 0; working = false }
+optionsAnswer mask = record { number = 0; mask = mask; count = bitsBelow 16 mask; bytes = []; made = 0; working = false }
 
 abbrev pub exampleAnswer : List ℕ → Answer
 exampleAnswer bytes = record { number = 0; mask = 0; count = 0; bytes = bytes; made = 0; working = false }
@@ -35,22 +51,26 @@ exampleAnswer bytes = record { number = 0; mask = 0; count = 0; bytes = bytes; m
 abbrev pub turnsAnswer : ℕ → Bool → Answer
 turnsAnswer made working = record { number = 0; mask = 0; count = 0; bytes = []; made = made; working = working }
 
--- a choice set, or dropped where a is 255, and a job posted
-abbrev pub choiceSet : Catalogue → ℕ → ℕ → ℕ → Room → Outcome
-choiceSet catalogue c i a room = changed c (posted (catalogue .sizes) (set (choicesOf room c) i a)) room
+-- what an accepted asking answers, by its kind; only a ready seat is read
+abbrev pub answerBy : Kind → Clinic → Answer
+answerBy (posts choices) clinic = plain
+answerBy leaves clinic = plain
+answerBy (reads (Options i)) clinic = optionsAnswer (maskOf (clinic .seat) i)
+answerBy (reads (Example i a)) clinic = exampleAnswer (exampleIn (clinic .share) i a)
 
--- what an accepted call does: enter, choose and relax post a job, under the choices as they then are
+-- a call's answer, with desk and board as it leaves them
+pub record Outcome : Type 0 where
+  pub answer : Answer
+  pub room : Room
+
+-- What an accepted call does: an asking changes its own clinic alone and makes no turn.
 unfoldable pub done : Catalogue → Call → Room → Outcome
-done catalogue (enter c) room = changed c (posted (catalogue .sizes) (choicesOf room c)) room
-done catalogue (leave c) room = changed c closedClinic room
-done catalogue (choose c i a) room = choiceSet catalogue c i a room
-done catalogue (relax c i) room = choiceSet catalogue c i 255 room
-done catalogue (options c i) room = record { answer = optionsAnswer (maskOf (seatAt (room .desk) c) i); room = room }
-done catalogue (example c i a) room = record { answer = exampleAnswer (exampleIn (shareAt (room .board) c) i a); room = room }
-done catalogue (turns w) room = record {
-  answer = turnsAnswer (turnsMade catalogue w room) (isSome (served (afterTurns catalogue w room .desk)));
-  room = afterTurns catalogue w room;
-}
+done catalogue (asks c asking) room =
+    let own = clinicAt room c in let kind = kindOf asking (own .seat .choices) in
+    record { answer = answerBy kind own; room = withClinic c (room .desk .next) (byKind (catalogue .sizes) kind own) room }
+done catalogue (turns w) room =
+    let after = afterTurns catalogue w room in
+    record { answer = turnsAnswer (turnsMade catalogue w room) (isSome (served (after .desk))); room = after }
 
 -- a refusal changes neither desk nor board
 abbrev pub unless : ℕ → Room → Outcome → Outcome
@@ -66,6 +86,5 @@ performed sizes list desk board call = perform (catalogueOf sizes list) call (ro
 
 -- Open takes no desk: a refused open hands back a fresh one, and the board as it came.
 unfoldable pub opening : Catalogue → List ℕ → Outcome
-opening catalogue board =
-    unless (openRefusal catalogue board) (record { desk = freshDesk; board = board })
+opening catalogue board = unless (openRefusal catalogue board) (record { desk = freshDesk; board = board })
     (record { answer = plain; room = record { desk = freshDesk; board = emptyBoard } })

@@ -3,7 +3,8 @@ use Prim.Native.Nat.{ℕ, _*_}
 use mathlib.Core.List.{List}
 use lib.ListN.{getD, take, drop, set, replicate}
 use Rattle.search.specs.declared.Seat.{Seat}
-use Rattle.search.specs.Clinic.{Clinic, noSeat, closedSeat, put}
+use Rattle.builds.specs.Lists.{put}
+use Rattle.search.specs.Clinic.{Clinic, noSeat, closedSeat}
 use Rattle.runs.specs.declared.Desk.{Desk}
 
 pub record Room : Type 0 where
@@ -26,10 +27,9 @@ clinicAt room c = record { seat = seatAt (room .desk) c; share = shareAt (room .
 
 -- clinic c's record and share replaced, and the seat where the next turn begins; nothing else moves
 unfoldable pub withClinic : ℕ → ℕ → Clinic → Room → Room
-withClinic c next clinic room = record {
-  desk = record { seats = set (room .desk .seats) c (clinic .seat); next = next };
-  board = put (room .board) (c * 4096) (clinic .share);
-}
+withClinic c next clinic room =
+    let seats = set (room .desk .seats) c (clinic .seat) in
+    record { desk = record { seats = seats; next = next }; board = put (room .board) (c * 4096) (clinic .share) }
 
 abbrev pub freshDesk : Desk
 freshDesk = record { seats = replicate 8 closedSeat; next = 0 }

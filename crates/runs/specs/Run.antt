@@ -1,16 +1,17 @@
 -- A run: calls with arbitrary numbers, one after another, on a desk and board handed from call to call, all with one
 -- catalogue. A moment of a run is the end of a shorter one: turns(w) stops after u turns where turns(u) stops.
 use Prim.Native.Nat.{ℕ, _+_}
-use mathlib.Core.Bool.{Bool, false, cond, _&&_}
+use mathlib.Core.Bool.{Bool, cond, _&&_}
 use mathlib.Core.List.{List, [], _∷_}
-use lib.ListN.{set}
 use lib.Dec.{eqb}
 use Rattle.builds.specs.Catalogue.{Catalogue}
-use Rattle.search.specs.Clinic.{nothing16}
+use Rattle.search.specs.Clinic.{Clinic, nothing16, closedClinic}
+use Rattle.search.specs.Step.{steps}
+use Rattle.runs.specs.declared.Asking.{Asking}
 use Rattle.runs.specs.Room.{Room}
-use Rattle.runs.specs.Call.{Call, enter, leave, choose, relax, options, example, turns, Answer, isOf}
+use Rattle.runs.specs.Call.{Call, asks, turns, Answer, isOf}
 use Rattle.runs.specs.Turn.{stepsGiven}
-use Rattle.runs.specs.Perform.{perform}
+use Rattle.runs.specs.Perform.{Kind, posts, leaves, reads, kindOf, byKind, perform}
 
 unfoldable pub afterCalls : Catalogue → List Call → Room → Room
 afterCalls catalogue [] room = room
@@ -18,17 +19,8 @@ afterCalls catalogue (call ∷ calls) room = afterCalls catalogue calls (perform
 
 -- the turns that are asked for
 abbrev pub turnsAsked : Call → ℕ
-turnsAsked (enter c) = 0
-turnsAsked (leave c) = 0
-turnsAsked (choose c i a) = 0
-turnsAsked (relax c i) = 0
-turnsAsked (options c i) = 0
-turnsAsked (example c i a) = 0
+turnsAsked (asks c asking) = 0
 turnsAsked (turns w) = w
-
-unfoldable pub allTurnsAsked : List Call → ℕ
-allTurnsAsked [] = 0
-allTurnsAsked (call ∷ calls) = turnsAsked call + allTurnsAsked calls
 
 -- whether a call is accepted
 abbrev pub taken : Catalogue → Call → Room → Bool
@@ -39,81 +31,48 @@ taken catalogue call room = eqb (perform catalogue call room .answer .number) 0
 abbrev pub given : Catalogue → ℕ → Call → Room → ℕ
 given catalogue c call room = stepsGiven catalogue c (cond (taken catalogue call room) (turnsAsked call) 0) room
 
--- Clinic c's side of a run: each of its calls, the answer to it and the steps that c was given from then until its
--- next call or the end.
-pub record Own : Type 0 where
-  pub call : Call
-  pub answer : Answer
-  pub stepsAfter : ℕ
-
 -- the steps that c is given before its first call
 unfoldable pub stepsFirst : Catalogue → ℕ → List Call → Room → ℕ
 stepsFirst catalogue c [] room = 0
 stepsFirst catalogue c (call ∷ calls) room =
     cond (isOf c call) 0 (given catalogue c call room + stepsFirst catalogue c calls (perform catalogue call room .room))
 
-unfoldable pub side : Catalogue → ℕ → List Call → Room → List Own
+-- Clinic c's side of a run: each of its calls with the steps that c was given from then until its next call or the end,
+-- and the answer to it.
+unfoldable pub side : Catalogue → ℕ → List Call → Room → List ((Call × ℕ) × Answer)
 side catalogue c [] room = []
 side catalogue c (call ∷ calls) room =
-    cond (isOf c call)
-    (record {
-      call = call;
-      answer = perform catalogue call room .answer;
-      stepsAfter = stepsFirst catalogue c calls (perform catalogue call room .room);
-    }
-    ∷ side catalogue c calls (perform catalogue call room .room))
-    (side catalogue c calls (perform catalogue call room .room))
+    let after = perform catalogue call room in let later = side catalogue c calls (after .room) in
+    cond (isOf c call) (((call, stepsFirst catalogue c calls (after .room)), after .answer) ∷ later) later
 
--- whether a call posts a job for seat c
-abbrev pub postsFor : ℕ → Call → Bool
-postsFor c (enter d) = eqb c d
-postsFor c (leave d) = false
-postsFor c (choose d i a) = eqb c d
-postsFor c (relax d i) = eqb c d
-postsFor c (options d i) = false
-postsFor c (example d i a) = false
-postsFor c (turns w) = false
-
-abbrev pub leavesFor : ℕ → Call → Bool
-leavesFor c (enter d) = false
-leavesFor c (leave d) = eqb c d
-leavesFor c (choose d i a) = false
-leavesFor c (relax d i) = false
-leavesFor c (options d i) = false
-leavesFor c (example d i a) = false
-leavesFor c (turns w) = false
-
--- the choices that a clinic's own accepted call leaves in force: enter begins with none, choose sets one, relax drops one
-abbrev pub choicesBy : Call → List ℕ → List ℕ
-choicesBy (enter d) before = nothing16
-choicesBy (leave d) before = nothing16
-choicesBy (choose d i a) before = set before i a
-choicesBy (relax d i) before = set before i 255
-choicesBy (options d i) before = before
-choicesBy (example d i a) before = before
-choicesBy (turns w) before = before
-
--- What a seat has come through, traced from the calls alone: it is closed; or its last job was posted under some choices,
--- and it was given so many steps since.
+-- What a seat has come through, traced from the calls: it is closed; or its last job started from a record and share as
+-- they were posted, and it was given so many steps since.
 pub data Since : Type 0 where
   closed : Since
-  job : (choices : List ℕ) (given : ℕ) → Since
+  job : (start : Clinic) (given : ℕ) → Since
+
+-- record and share of a clinic that has come through this
+abbrev pub broughtTo : Catalogue → Since → Clinic
+broughtTo catalogue closed = closedClinic
+broughtTo catalogue (job start given) = steps catalogue given start
 
 -- the choices in force; a closed seat has none
 abbrev pub inForce : Since → List ℕ
 inForce closed = nothing16
-inForce (job choices given) = choices
+inForce (job start given) = start .seat .choices
 
-abbrev pub moreSteps : ℕ → Since → Since
-moreSteps n closed = closed
-moreSteps n (job choices given) = job choices (given + n)
+-- by an accepted asking of a kind: one that posts begins anew from what it leaves, leave ends, one that reads changes nothing
+abbrev pub sinceKind : Catalogue → Kind → Since → Since
+sinceKind catalogue (posts choices) before = job (byKind (catalogue .sizes) (posts choices) (broughtTo catalogue before)) 0
+sinceKind catalogue leaves before = closed
+sinceKind catalogue (reads reading) before = before
 
--- an accepted call that posts begins anew, an accepted leave ends, any other call adds the steps that it gives
+-- a clinic's own accepted asking goes by its kind; turns add the steps that they give
 abbrev pub sinceCall : Catalogue → ℕ → Call → Room → Since → Since
-sinceCall catalogue c call room before =
-    cond (postsFor c call && taken catalogue call room) (job (choicesBy call (inForce before)) 0)
-    (cond (leavesFor c call && taken catalogue call room) closed
-    (moreSteps (given catalogue c call room) before))
+sinceCall catalogue c (asks d asking) room before =
+    cond (eqb c d && taken catalogue (asks d asking) room) (sinceKind catalogue (kindOf asking (inForce before)) before) before
+sinceCall catalogue c (turns w) room closed = closed
+sinceCall catalogue c (turns w) room (job start so-far) = job start (so-far + given catalogue c (turns w) room)
 
 unfoldable pub since : Catalogue → ℕ → List Call → Room → Since → Since
 since catalogue c [] room before = before

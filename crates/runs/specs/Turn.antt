@@ -48,5 +48,4 @@ turnsMade catalogue (suc w) room = cond (isSome (served (room .desk))) (1 + turn
 -- of w turns, those that gave seat c its steps
 unfoldable pub stepsGiven : Catalogue → ℕ → ℕ → Room → ℕ
 stepsGiven catalogue c zero room = 0
-stepsGiven catalogue c (suc w) room =
-    cond (is c (served (room .desk))) 1 0 + stepsGiven catalogue c w (turn catalogue room)
+stepsGiven catalogue c (suc w) room = cond (is c (served (room .desk))) 1 0 + stepsGiven catalogue c w (turn catalogue room)

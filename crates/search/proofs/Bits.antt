@@ -12,7 +12,7 @@ use lib.Dec.{eqb, ltb, lit<}
 use lib.Bits.{bitAnd, bitOr, and-high, or-add-and, or-shr, or-mod, or-zero-r, or-lt}
 use lib.Count.{ones, onesIn, ones-cat}
 use lib.Pow.{pow-pos, pow-mono, pow-lt, pow-add, mod-pow-add, shl-shr}
-use Rattle.search.specs.Bits.{hasBit, withBit, bitsBelow, bitCount}
+use Rattle.search.specs.Bits.{hasBit, withBit, bitsBelow}
 
 -- the digit of bit a, which is 0 or 1
 abbrev digit : ℕ → ℕ → ℕ
@@ -95,5 +95,5 @@ bits-below (suc k) mask =
     (ap (λ (x : ℕ). x + ones (mask % 2 ^ k))
     (digit-cases (λ (d : ℕ). cond (eqb d 1) 1 0 ≡ ones d) refl refl (digit mask k) (digit-small mask k)))
 
-pub bit-count : (mask : ℕ) → mask < 2 ^ 16 → bitCount mask ≡ ones mask
+pub bit-count : (mask : ℕ) → mask < 2 ^ 16 → bitsBelow 16 mask ≡ ones mask
 bit-count mask h = bits-below 16 mask ∙ ap ones (mod-eq-of-lt h)

@@ -8,10 +8,11 @@ use native.Mathlib.Numerals.{add-one}
 use native.Mathlib.Omega.{arith}
 use lib.ListN.{length, getD}
 use borrow.Author.Tests.{le-ltb, eq-eqb, ne-eqb}
-use Rattle.builds.specs.Builds.{countFrom, optionsOf}
-use Rattle.builds.proofs.PlacedSteps.{getD-within}
+use Rattle.builds.specs.Lists.{countFrom}
+use Rattle.builds.specs.Catalogue.{optionsOf}
+use Rattle.builds.proofs.PlacedWalks.{getD-within}
 use Rattle.search.specs.Candidates.{candidates, firstCandidate, firstAbove, nextCandidate}
-use Rattle.search.proofs.InTurn.{count-above}
+use Rattle.search.proofs.CandidatesInOrder.{count-above}
 
 none-above : (k s v : ℕ) → s + k ≤ v + 1 → firstAbove v (countFrom s k) ≡ none
 unfolding firstAbove countFrom

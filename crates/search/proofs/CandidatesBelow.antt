@@ -9,11 +9,10 @@ use native.Mathlib.Omega.{arith}
 use lib.ListN.{getD}
 use lib.Dec.{ltb, eqb}
 use borrow.Author.Tests.{eqb-true, eqb-false}
-use Rattle.builds.specs.Every.{Every}
-use Rattle.builds.specs.Catalogue.{Catalogue, sizeOf}
-use Rattle.builds.specs.Builds.{countFrom, optionsOf}
+use Rattle.builds.specs.Lists.{Every, countFrom}
+use Rattle.builds.specs.Catalogue.{Catalogue, sizeOf, optionsOf}
 use Rattle.search.specs.Candidates.{candidates, firstCandidate, firstAbove, nextCandidate}
-use Rattle.search.proofs.InTurn.{firstOf, candidates-first}
+use Rattle.search.proofs.CandidatesInOrder.{firstOf, candidates-first}
 
 -- each of sixteen choices is 255 or an option of its feature
 abbrev pub ChoicesWithin : Catalogue → List ℕ → Type 0

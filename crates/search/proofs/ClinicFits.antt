@@ -19,9 +19,9 @@ use Rattle.search.specs.declared.State.{State}
 use Rattle.search.specs.declared.State.the-variants.{Ready, AtWork}
 use Rattle.search.specs.Bits.{withBit}
 use Rattle.search.specs.Clinic.{Clinic, clinicOf, closedSeat, closedClinic, withExample, moved}
-use Rattle.search.specs.Fit.{depthOf, seatFits}
+use Rattle.search.specs.RecordFits.{depthOf, seatFits}
 use Rattle.search.proofs.Bits.{with-bit-below}
-use Rattle.search.proofs.Fits.{PlaceFits, StateFits, seat-fits, fits-seat}
+use Rattle.search.proofs.FitsInWords.{PlaceFits, StateFits, seat-fits, fits-seat}
 use Rattle.search.proofs.ExamplePlaces.{written-length}
 use Rattle.search.proofs.PairSteps.{same-again}
 use Rattle.search.proofs.CandidatesBelow.{ChoicesWithin}

@@ -5,8 +5,8 @@ use Prim.Native.Nat.{ℕ, _+_, _<_}
 use mathlib.Core.Path.{_≡_, refl, sym, _∙_}
 use mathlib.Core.Bool.{Bool, true, false, _&&_, and-true, and-false, and-eq-true-iff}
 use native.Mathlib.Numerals.{add-one}
-use Rattle.search.specs.Fit.{everyBelow}
-use Rattle.search.proofs.Fits.{every-below}
+use Rattle.builds.specs.Lists.{everyBelow}
+use Rattle.search.proofs.FitsInWords.{every-below}
 
 module _ (test : ℕ → Bool) where
   pub one-more : (f : ℕ) → everyBelow f test ≡ true → test f ≡ true → everyBelow (f + 1) test ≡ true

@@ -11,7 +11,8 @@ use lib.ListN.{take-append-drop, replicate-append-replicate}
 use lib.Seq.{length-take-le, take-append-le, drop-append-le, drop-append-add, take-at, drop-at, drop-drop}
 use lib.Dec.{ltb}
 use borrow.Author.Tests.{ltb-true, ltb-false}
-use Rattle.search.specs.Clinic.{put, nothing16, emptyShare, examplePlace, exampleIn}
+use Rattle.builds.specs.Lists.{put}
+use Rattle.search.specs.Clinic.{nothing16, emptyShare, examplePlace, exampleIn}
 
 -- bytes read from the front of two lists that are joined
 pub from-front : (place count : ℕ) (front back : List ℕ) → place + count ≤ length front

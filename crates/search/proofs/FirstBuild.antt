@@ -13,11 +13,11 @@ use lib.ListN.{length}
 use Rattle.builds.specs.Rule.{passes}
 use Rattle.builds.specs.Catalogue.{Catalogue, rulesOf}
 use Rattle.builds.specs.Build.{BuildWith, FirstWith, padded}
-use Rattle.builds.specs.Builds.{buildsWith}
+use Rattle.builds.specs.ListedBuilds.{buildsWith}
 use Rattle.builds.proofs.Faultless.{fault-zero}
 use Rattle.builds.proofs.Padded.{padded-sets}
 use Rattle.builds.proofs.Dictionary.{FirstIs, one-answer}
-use Rattle.builds.proofs.Builds.{first-listed}
+use Rattle.builds.proofs.ListedBuilds.{first-listed}
 use Rattle.search.specs.Clinic.{nothing16}
 use Rattle.search.specs.Candidates.{candidates, setAside, chosenOtherwise}
 use Rattle.search.specs.Count.{oneStep, nothingTried, searchFor, pairSearch}
@@ -28,7 +28,7 @@ use Rattle.search.proofs.FirstCompletion.{Finds, search-finds}
 use Rattle.search.proofs.CompletionsAreBuilds.{Completion, completions-are-builds}
 
 -- what is found is the answer to the question which build is the first, padded
-pub record Answers (catalogue : Catalogue) (choices : List ℕ) (i a : ℕ) (found : Option (List ℕ)) : Type 0 where
+pub record TellsFirst (catalogue : Catalogue) (choices : List ℕ) (i a : ℕ) (found : Option (List ℕ)) : Type 0 where
   pub answer : Option (List ℕ)
   pub is-right : FirstIs catalogue choices i a answer
   pub is-padded : found ≡ Option·map padded answer
@@ -39,10 +39,10 @@ module _
     {choices : List ℕ}
     {i a : ℕ}
     {found : Option (List ℕ)}
-    (answers : Answers catalogue choices i a found)
+    (tells : TellsFirst catalogue choices i a found)
   where
     none-has : found ≡ none → (build : List ℕ) → BuildWith catalogue choices i a build → ⊥
-    none-has e = go (answers .is-right) (sym (answers .is-padded) ∙ e)
+    none-has e = go (tells .is-right) (sym (tells .is-padded) ∙ e)
       where
         go : {answer : Option (List ℕ)} → FirstIs catalogue choices i a answer → Option·map padded answer ≡ none
             → (build : List ℕ) → BuildWith catalogue choices i a build → ⊥
@@ -50,7 +50,7 @@ module _
         go (FirstIs.first {build = b} f) e = absurd (Option·some-ne-none (padded b) e)
 
     none-found : ((build : List ℕ) → BuildWith catalogue choices i a build → ⊥) → found ≡ none
-    none-found no-build = go (answers .is-right) (answers .is-padded)
+    none-found no-build = go (tells .is-right) (tells .is-padded)
       where
         go : {answer : Option (List ℕ)} → FirstIs catalogue choices i a answer → found ≡ Option·map padded answer → found ≡ none
         go (FirstIs.nothing n) e = e
@@ -58,7 +58,7 @@ module _
 
     first-found : (trial : List ℕ) → found ≡ some trial
         → (build : List ℕ) × (trial ≡ padded build) × FirstWith catalogue choices i a build
-    first-found trial e = go (answers .is-right) (sym (answers .is-padded) ∙ e)
+    first-found trial e = go (tells .is-right) (sym (tells .is-padded) ∙ e)
       where
         go : {answer : Option (List ℕ)} → FirstIs catalogue choices i a answer → Option·map padded answer ≡ some trial
             → (build : List ℕ) × (trial ≡ padded build) × FirstWith catalogue choices i a build
@@ -67,13 +67,13 @@ module _
 
     -- with the list of builds
     listed-found : found ≡ Option·map padded (head? (buildsWith (catalogue .sizes) (rulesOf catalogue) choices i a))
-    listed-found = answers .is-padded ∙ ap (Option·map padded) (one-answer (answers .is-right) (first-listed catalogue choices i a))
+    listed-found = tells .is-padded ∙ ap (Option·map padded) (one-answer (tells .is-right) (first-listed catalogue choices i a))
 
 module _ (catalogue : Catalogue) (choices : List ℕ) (i a : ℕ) (premises : SearchPremises catalogue choices i a) where
   -- ---- the search itself, under the choices with feature i's own set aside
 
   finds-answer : {found : Option (List ℕ)} → Finds (Completion catalogue choices i a) nothing16 0 found
-      → Answers catalogue (setAside choices i) i a found
+      → TellsFirst catalogue (setAside choices i) i a found
   finds-answer (Finds.nothing n) =
       let same = completions-are-builds catalogue choices i a premises in
       record { answer = none; is-right = FirstIs.nothing (λ build b. n build (same build .1 b)); is-padded = refl }
@@ -87,58 +87,58 @@ module _ (catalogue : Catalogue) (choices : List ℕ) (i a : ℕ) (premises : Se
         is-padded = ap {B = Option (List ℕ)} some (padded-sets build short);
       }
 
-  pub search-answers : Answers catalogue (setAside choices i) i a (searchFor catalogue choices i a .found)
+  pub search-tells : TellsFirst catalogue (setAside choices i) i a (searchFor catalogue choices i a .found)
   unfolding searchFor
-  search-answers =
+  search-tells =
       finds-answer
       (search-finds (passes (rulesOf catalogue)) (candidates (catalogue .sizes) choices i a)
       (candidates-rising (catalogue .sizes) choices i a) (length (catalogue .sizes)) 0 nothing16)
 
   pub finds-nothing-aside : (searchFor catalogue choices i a .found ≡ none)
       ↔ ((build : List ℕ) → BuildWith catalogue (setAside choices i) i a build → ⊥)
-  finds-nothing-aside = (none-has search-answers, none-found search-answers)
+  finds-nothing-aside = (none-has search-tells, none-found search-tells)
 
   pub finds-first-aside : (trial : List ℕ) → searchFor catalogue choices i a .found ≡ some trial
       → (build : List ℕ) × (trial ≡ padded build) × FirstWith catalogue (setAside choices i) i a build
-  finds-first-aside = first-found search-answers
+  finds-first-aside = first-found search-tells
 
   pub finds-listed-aside : searchFor catalogue choices i a .found
       ≡ Option·map padded (head? (buildsWith (catalogue .sizes) (rulesOf catalogue) (setAside choices i) i a))
-  finds-listed-aside = listed-found search-answers
+  finds-listed-aside = listed-found search-tells
 
   -- ---- with rule 1 above it, under the choices themselves
 
-  free-answers : chosenOtherwise choices i a ≡ false → {found : Option (List ℕ)}
-      → Answers catalogue (setAside choices i) i a found → Answers catalogue choices i a found
-  free-answers free answers = record { answer = answers .answer; is-right = go (answers .is-right); is-padded = answers .is-padded }
+  free-tells : chosenOtherwise choices i a ≡ false → {found : Option (List ℕ)}
+      → TellsFirst catalogue (setAside choices i) i a found → TellsFirst catalogue choices i a found
+  free-tells free tells = record { answer = tells .answer; is-right = go (tells .is-right); is-padded = tells .is-padded }
     where
       go : {answer : Option (List ℕ)} → FirstIs catalogue (setAside choices i) i a answer → FirstIs catalogue choices i a answer
       go (FirstIs.nothing n) = FirstIs.nothing (λ build b. n build (same-builds catalogue choices i a free build .0 b))
       go (FirstIs.first {build = build} f) = FirstIs.first (same-first catalogue choices i a free build .1 f)
 
-  pub pair-answers : Answers catalogue choices i a (pairSearch catalogue choices i a .found)
+  pub pair-tells : TellsFirst catalogue choices i a (pairSearch catalogue choices i a .found)
   unfolding pairSearch
-  pair-answers = go (chosenOtherwise choices i a) refl
+  pair-tells = go (chosenOtherwise choices i a) refl
     where
       go : (otherwise : Bool) → chosenOtherwise choices i a ≡ otherwise
-          → Answers catalogue choices i a (cond otherwise (oneStep nothingTried) (searchFor catalogue choices i a) .found)
+          → TellsFirst catalogue choices i a (cond otherwise (oneStep nothingTried) (searchFor catalogue choices i a) .found)
       go true e =
           let no-build = none-otherwise catalogue choices i a (premises .feature) e in
           record { answer = none; is-right = FirstIs.nothing no-build; is-padded = refl }
-      go false e = free-answers e search-answers
+      go false e = free-tells e search-tells
 
   pub finds-nothing : pairSearch catalogue choices i a .found ≡ none
       → (build : List ℕ) → BuildWith catalogue choices i a build → ⊥
-  finds-nothing = none-has pair-answers
+  finds-nothing = none-has pair-tells
 
   pub finds-nothing-exactly : (pairSearch catalogue choices i a .found ≡ none)
       ↔ ((build : List ℕ) → BuildWith catalogue choices i a build → ⊥)
-  finds-nothing-exactly = (finds-nothing, none-found pair-answers)
+  finds-nothing-exactly = (finds-nothing, none-found pair-tells)
 
   pub finds-first : (trial : List ℕ) → pairSearch catalogue choices i a .found ≡ some trial
       → (build : List ℕ) × (trial ≡ padded build) × FirstWith catalogue choices i a build
-  finds-first = first-found pair-answers
+  finds-first = first-found pair-tells
 
   pub finds-listed : pairSearch catalogue choices i a .found
       ≡ Option·map padded (head? (buildsWith (catalogue .sizes) (rulesOf catalogue) choices i a))
-  finds-listed = listed-found pair-answers
+  finds-listed = listed-found pair-tells

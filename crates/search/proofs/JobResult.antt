@@ -13,24 +13,24 @@ use lib.Dec.{ltb}
 use borrow.Author.Tests.{ltb-true, ltb-false, lt-ltb, le-ltb}
 use Rattle.builds.specs.Catalogue.{Catalogue}
 use Rattle.builds.specs.Fault.{faultOf}
-use Rattle.builds.specs.Every.{Every}
+use Rattle.builds.specs.Lists.{Every}
 use Rattle.builds.proofs.Faultless.{fault-zero, sizesFault-at}
 use Rattle.search.specs.Bits.{hasBit}
 use Rattle.search.specs.Clinic.{Clinic, nothing16, noneLeft, emptyShare, exampleIn}
 use Rattle.search.specs.Step.{posted}
 use Rattle.search.specs.Count.{pairSearch, pairsFrom}
-use Rattle.search.specs.Fit.{maskFits}
+use Rattle.search.specs.RecordFits.{maskFits}
 use Rattle.search.proofs.Bits.{no-bit-above}
 use Rattle.search.proofs.NoBits.{no-bit-from}
 use Rattle.search.proofs.ExamplePlaces.{empty-example}
 use Rattle.search.proofs.PairSteps.{same-again}
 use Rattle.search.proofs.PairsOfAJob.{every-among, job-pairs}
 use Rattle.search.proofs.JobSteps.{worked, jobEnded}
-use Rattle.search.proofs.PairView.{Whole, HasPlace, View, bitOf, bit-view, exampleOf, example-view}
+use Rattle.search.proofs.PairView.{WholeClinic, HasPlace, View, bitOf, bit-view, exampleOf, example-view}
 use Rattle.search.proofs.WorkedPairs.{shownOr, worked-whole, worked-nothing, worked-seen}
 
 module _ (sizes choices : List ℕ) where
-  posted-whole : Whole (posted sizes choices)
+  posted-whole : WholeClinic (posted sizes choices)
   unfolding posted
   posted-whole = record { all-masks = refl; all-bytes = length-replicate {A = ℕ} 4096 255 }
 
@@ -78,7 +78,7 @@ module _ (catalogue : Catalogue) (fault : faultOf catalogue ≡ 0) (choices : Li
   pairs-have-places : Every HasPlace (pairsFrom 0 sizes)
   pairs-have-places = every-pair pair-place
 
-  job-whole : Whole (worked catalogue choices (pairsFrom 0 sizes) (posted sizes choices))
+  job-whole : WholeClinic (worked catalogue choices (pairsFrom 0 sizes) (posted sizes choices))
   job-whole = worked-whole catalogue choices pairs-have-places (posted sizes choices) (posted-whole sizes choices)
 
   pub job-masks-length : length masks ≡ 16

@@ -14,8 +14,9 @@ use Rattle.search.specs.declared.State.{State}
 use Rattle.search.specs.declared.State.the-variants.{Ready}
 use Rattle.search.specs.Clinic.{Clinic, nothing16, moved, withExample}
 use Rattle.search.specs.Step.{started, pairEnded, steps, posted}
-use Rattle.search.specs.Count.{pairSearch, pairsFrom, pairCounts, sum, jobSteps}
-use Rattle.search.proofs.Takes.{Takes, Working, working, takes-steps, takes-before, takes-to, takes-join, takes-weaken}
+use Rattle.builds.specs.Lists.{sum}
+use Rattle.search.specs.Count.{pairSearch, pairsFrom, pairCounts, jobSteps}
+use Rattle.search.proofs.TakesSteps.{TakesSteps, Working, working, takes-steps, takes-before, takes-to, takes-join, takes-weaken}
 use Rattle.search.proofs.PairSteps.{withFound, stays, some-option, pair-takes}
 use Rattle.search.proofs.PairsInOrder.{InOrder, stateAt, feature-first, pairs-in-order}
 
@@ -61,9 +62,9 @@ module _ (catalogue : Catalogue) (choices : List ℕ) where
     pub pairs-take : {ps : List (ℕ × ℕ)} → InOrder (catalogue .sizes) choices ps → (clinic : Clinic)
         → clinic .seat .state ≡ stateAt (catalogue .sizes) choices ps → clinic .seat .choices ≡ choices
         → clinic .seat .trial ≡ nothing16
-        → Takes catalogue Working (sum (map counted ps)) clinic (moved Ready nothing16 (worked catalogue choices ps clinic))
+        → TakesSteps catalogue Working (sum (map counted ps)) clinic (moved Ready nothing16 (worked catalogue choices ps clinic))
     unfolding sum pairEnded worked
-    pairs-take InOrder.done clinic state-is choices-are trial-is = takes-to (stays clinic state-is trial-is) Takes.none
+    pairs-take InOrder.done clinic state-is choices-are trial-is = takes-to (stays clinic state-is trial-is) TakesSteps.none
     pairs-take (InOrder.also {i = i} {a = a} {ps = ps} next later) clinic state-is choices-are trial-is =
         let found : Option (List ℕ) = pairSearch catalogue choices i a .found in
         let kept : withFound i a found clinic .seat .choices ≡ choices = found-choices i a found clinic ∙ choices-are in
@@ -81,7 +82,7 @@ jobEnded catalogue choices =
     moved Ready nothing16 (worked catalogue choices (pairsFrom 0 (catalogue .sizes)) (posted (catalogue .sizes) choices))
 
 module _ (catalogue : Catalogue) (fault : faultOf catalogue ≡ 0) (choices : List ℕ) where
-  pub job-takes : Takes catalogue Working (jobSteps catalogue choices) (posted (catalogue .sizes) choices) (jobEnded catalogue choices)
+  pub job-takes : TakesSteps catalogue Working (jobSteps catalogue choices) (posted (catalogue .sizes) choices) (jobEnded catalogue choices)
   unfolding jobSteps pairCounts posted
   job-takes =
       pairs-take catalogue choices fault

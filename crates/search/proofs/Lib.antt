@@ -6,21 +6,21 @@
 --   JobResult: what masks and share hold then
 pub mod Bits
 pub mod NoBits
-pub mod Fits
+pub mod FitsInWords
 pub mod EveryBelow
 pub mod Filled
-pub mod Kept
+pub mod KeptBefore
 pub mod PlaceBounds
 pub mod ExamplePlaces
-pub mod Takes
-pub mod InTurn
+pub mod TakesSteps
+pub mod CandidatesInOrder
 pub mod CandidatesAt
 pub mod CandidatesBelow
 pub mod GivenUp
 pub mod GoingBack
 pub mod TrialFits
 pub mod ClinicFits
-pub mod ArrayLengths
+pub mod RecordLengths
 pub mod StepFits
 pub mod StepWrites
 pub mod SearchSteps

@@ -17,8 +17,8 @@ use Rattle.search.specs.Clinic.{Clinic, nothing16, moved, withExample}
 use Rattle.search.specs.Candidates.{candidates, firstCandidate, chosenOtherwise}
 use Rattle.search.specs.Step.{started, pairEnded, afterTried, stepAt, stepFrom, step, steps}
 use Rattle.search.specs.Count.{Search, nothingTried, oneStep, orLater, searchEach, searchFrom, searchFor, pairSearch}
-use Rattle.search.proofs.Takes.{Takes, WorkingOn, takes-steps, takes-before, takes-to, takes-from}
-use Rattle.search.proofs.InTurn.{firstOf, candidates-first}
+use Rattle.search.proofs.TakesSteps.{TakesSteps, WorkingOn, takes-steps, takes-before, takes-to, takes-from}
+use Rattle.search.proofs.CandidatesInOrder.{firstOf, candidates-first}
 use Rattle.search.proofs.GivenUp.{PlacedBelow, depthExhausted}
 use Rattle.search.proofs.SearchSteps.{foundOr, follow-from}
 
@@ -66,7 +66,7 @@ module _ (catalogue : Catalogue) (fault : faultOf catalogue ≡ 0) (i a : ℕ) w
     choices = clinic .seat .choices
 
     abbrev TakesTo : Search → Type 0
-    TakesTo sought = Takes catalogue (WorkingOn i a) (sought .count) clinic (pairEnded sizes i a (withFound i a (sought .found) clinic))
+    TakesTo sought = TakesSteps catalogue (WorkingOn i a) (sought .count) clinic (pairEnded sizes i a (withFound i a (sought .found) clinic))
 
     -- the search from depth 0 with so many features to be placed
     abbrev searchWith : ℕ → Search
@@ -77,8 +77,8 @@ module _ (catalogue : Catalogue) (fault : faultOf catalogue ≡ 0) (i a : ℕ) w
     ends-at-once h =
         let here : Place = record { feature = i; option = a; depth = 0; next = firstCandidate sizes choices i a 0 } in
         let over : step catalogue clinic ≡ pairEnded sizes i a clinic = rw (begins .state-is, h) refl in
-        Takes.first (record { place = here; at-work = begins .state-is; feature = refl; option = refl })
-        (takes-from over Takes.none)
+        TakesSteps.first (record { place = here; at-work = begins .state-is; feature = refl; option = refl })
+        (takes-from over TakesSteps.none)
 
     searches : chosenOtherwise choices i a ≡ false → TakesTo (searchFor catalogue choices i a)
     unfolding searchFor afterTried
@@ -138,7 +138,7 @@ module _ (catalogue : Catalogue) (fault : faultOf catalogue ≡ 0) (choices : Li
     abbrev ended : Clinic
     ended = pairEnded (catalogue .sizes) i a (withFound i a (pairSearch catalogue choices i a .found) clinic)
 
-    pub pair-takes : Takes catalogue (WorkingOn i a) (pairSearch catalogue choices i a .count) clinic ended
+    pub pair-takes : TakesSteps catalogue (WorkingOn i a) (pairSearch catalogue choices i a .count) clinic ended
     pair-takes = rw (← begins .choices-are) (pair-takes-own catalogue fault i a clinic own)
       where
         own : Begins (catalogue .sizes) (clinic .seat .choices) i a clinic

@@ -16,7 +16,7 @@ use Rattle.search.proofs.Bits.{has-own, has-other}
 use Rattle.search.proofs.ExamplePlaces.{written-length, written-same, written-other}
 
 -- a clinic with a mask for each of 16 features, and with a share of 4,096 bytes
-pub record Whole (clinic : Clinic) : Type 0 where
+pub record WholeClinic (clinic : Clinic) : Type 0 where
   pub all-masks : length (clinic .seat .masks) ≡ 16
   pub all-bytes : length (clinic .share) ≡ 4096
 
@@ -26,7 +26,7 @@ pub record HasPlace (p : ℕ × ℕ) : Type 0 where
   pub option-fits : p .1 < 16
 
 pub example-whole : (i a : ℕ) → HasPlace (i, a) → (example : List ℕ) → length example ≡ 16
-    → (clinic : Clinic) → Whole clinic → Whole (withExample i a example clinic)
+    → (clinic : Clinic) → WholeClinic clinic → WholeClinic (withExample i a example clinic)
 unfolding withExample
 example-whole i a fits example full clinic w = record {
   all-masks = rw length-set (w .all-masks);
@@ -36,10 +36,10 @@ example-whole i a fits example full clinic w = record {
 -- a view of the pair of feature i and option a: what it shows once an example is written for that pair, and that it shows
 -- nothing of any other
 pub record View {A : Type 0} (see : Clinic → A) (shown : List ℕ → A) (i a : ℕ) : Type 0 where
-  pub own : HasPlace (i, a) → (example : List ℕ) → length example ≡ 16 → (clinic : Clinic) → Whole clinic
+  pub own : HasPlace (i, a) → (example : List ℕ) → length example ≡ 16 → (clinic : Clinic) → WholeClinic clinic
       → see (withExample i a example clinic) ≡ shown example
   pub other : (j b : ℕ) → HasPlace (j, b) → (i ≡ j → a ≢ b) → (example : List ℕ) → length example ≡ 16
-      → (clinic : Clinic) → Whole clinic → see (withExample j b example clinic) ≡ see clinic
+      → (clinic : Clinic) → WholeClinic clinic → see (withExample j b example clinic) ≡ see clinic
 
 module _ (i a : ℕ) where
   abbrev pub bitOf : Clinic → Bool

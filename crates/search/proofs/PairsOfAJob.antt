@@ -10,8 +10,8 @@ use native.Mathlib.Omega.{arith}
 use lib.ListN.{getD}
 use lib.Dec.{ltb, eqb, leb·suc-suc}
 use borrow.Author.Tests.{eq-eqb, ne-eqb, le-ltb, lt-ltb}
-use Rattle.builds.specs.Builds.{countFrom, optionsOf}
-use Rattle.builds.specs.Every.{Every}
+use Rattle.builds.specs.Lists.{countFrom, Every}
+use Rattle.builds.specs.Catalogue.{optionsOf}
 use Rattle.search.specs.Count.{pairsFrom}
 
 abbrev pub isPair : ℕ → ℕ → ℕ × ℕ → Bool

@@ -12,10 +12,10 @@ use Rattle.builds.proofs.Faultless.{fault-zero, sizesFault-at}
 use Rattle.search.specs.declared.Seat.{Seat}
 use Rattle.search.specs.declared.Place.{Place}
 use Rattle.search.specs.declared.State.the-variants.{AtWork}
-use Rattle.search.specs.Fit.{depthOf}
+use Rattle.search.specs.RecordFits.{depthOf}
 use Rattle.search.specs.inner.Placed.{PlacedAt}
-use Rattle.search.proofs.Fits.{PlaceFits, SeatFits}
-use Rattle.search.proofs.Kept.{before-or-from}
+use Rattle.search.proofs.FitsInWords.{PlaceFits, SeatFits}
+use Rattle.search.proofs.KeptBefore.{before-or-from}
 
 module _ (catalogue : Catalogue) (fault : faultOf catalogue ≡ 0) where
   pub few-features : length (catalogue .sizes) ≤ 16

@@ -18,8 +18,8 @@ use Rattle.search.specs.Clinic.{Clinic, moved, withExample}
 use Rattle.search.specs.Candidates.{candidates, firstCandidate, firstAbove, chosenOtherwise}
 use Rattle.search.specs.Step.{Tried, goOn, build, exhausted, goOnIf, givenUp, tried, pairEnded, afterTried, stepAt, stepFrom, step}
 use Rattle.search.specs.Count.{Search, nothingTried, oneStep, orLater, andThen, searchEach, searchFrom}
-use Rattle.search.proofs.Takes.{Takes, WorkingOn, takes-times, takes-from, takes-join}
-use Rattle.search.proofs.InTurn.{InTurn, firstOf, candidates-in-turn, candidates-first}
+use Rattle.search.proofs.TakesSteps.{TakesSteps, WorkingOn, takes-times, takes-from, takes-join}
+use Rattle.search.proofs.CandidatesInOrder.{CandidatesInOrder, firstOf, candidates-in-turn, candidates-first}
 use Rattle.search.proofs.GivenUp.{PlacedBelow, placed-one-more, depthExhausted, given-up, placed-given-up}
 
 -- a build that is found, or else what comes otherwise
@@ -59,7 +59,7 @@ module _ (catalogue : Catalogue) (i a : ℕ) (clinic : Clinic) where
   -- the small steps follow a search: as many as it has, from where it stands to what it finds, or else comes to
   abbrev pub Follow : Search → Tried → Tried → Type 0
   Follow sought start otherwise =
-      Takes catalogue (WorkingOn i a) (sought .count) (afterTried sizes i a clinic start)
+      TakesSteps catalogue (WorkingOn i a) (sought .count) (afterTried sizes i a clinic start)
       (afterTried sizes i a clinic (foundOr (sought .found) otherwise))
 
   follow-then : (sought later : Search) (start middle otherwise : Tried) → Follow sought start middle
@@ -104,7 +104,7 @@ module _ (catalogue : Catalogue) (i a : ℕ) (clinic : Clinic) where
     follow-step sought j v trial otherwise f =
         let here : Place = record { feature = i; option = a; depth = j; next = v } in
         takes-times (omega arith)
-        (Takes.first (record { place = here; at-work = refl; feature = refl; option = refl })
+        (TakesSteps.first (record { place = here; at-work = refl; feature = refl; option = refl })
         (takes-from (step-tries j v trial) f))
 
     module _ (m j : ℕ) (deep : j + suc m ≡ length sizes) (deeper : List ℕ → Search)
@@ -118,13 +118,13 @@ module _ (catalogue : Catalogue) (i a : ℕ) (clinic : Clinic) where
         follow-tried v vs next true h =
             rw (passed m j v trial deep h, ← next-left j v vs trial next, ← placed-given-up sizes choices i a j v p (omega arith))
             (follow-deeper (set trial j v) (placed-one-more v p))
-        follow-tried v vs next false h = rw (failed j v trial h, next-left j v vs trial next) Takes.none
+        follow-tried v vs next false h = rw (failed j v trial h, next-left j v vs trial next) TakesSteps.none
 
-        follow-each : {vs : List ℕ} → InTurn (candidatesAt j) vs
+        follow-each : {vs : List ℕ} → CandidatesInOrder (candidatesAt j) vs
             → Follow (searchEach test deeper j trial vs) (left j trial vs) (depthExhausted sizes choices i a j trial)
         unfolding searchEach
-        follow-each InTurn.done = Takes.none
-        follow-each (InTurn.also {v = v} {vs = vs} next later) =
+        follow-each CandidatesInOrder.done = TakesSteps.none
+        follow-each (CandidatesInOrder.also {v = v} {vs = vs} next later) =
             let here : Search = cond (test j (set trial j v)) (deeper (set trial j v)) nothingTried in
             let none-left = depthExhausted sizes choices i a j trial in
             follow-then (oneStep here) (searchEach test deeper j trial vs) (goOn j v trial) (left j trial vs) none-left
@@ -135,7 +135,7 @@ module _ (catalogue : Catalogue) (i a : ℕ) (clinic : Clinic) where
         → (m j : ℕ) (trial : List ℕ) → j + m ≡ length sizes → PlacedBelow (length sizes) j trial
         → Follow (searchFrom test candidatesAt m j trial) (entered m j trial) (depthExhausted sizes choices i a j trial)
     unfolding searchFrom
-    follow-from some-option zero j trial e p = Takes.none
+    follow-from some-option zero j trial e p = TakesSteps.none
     follow-from some-option (suc m) j trial e p =
         let first-is = candidates-first sizes choices i a j (some-option j (omega arith)) in
         let first-left : left j trial (candidatesAt j) ≡ entered (suc m) j trial = rw first-is refl in

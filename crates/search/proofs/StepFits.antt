@@ -19,8 +19,8 @@ use Rattle.search.specs.declared.State.the-variants.{Closed, Ready, AtWo
 use Rattle.search.specs.Clinic.{Clinic, nothing16, withExample}
 use Rattle.search.specs.Candidates.{chosenOtherwise}
 use Rattle.search.specs.Step.{Tried, started, afterPair, pairEnded, afterTried, tried, stepAt, stepFrom, step, posted}
-use Rattle.search.specs.Fit.{depthOf}
-use Rattle.search.proofs.Fits.{PlaceFits, SeatFits, seat-fits}
+use Rattle.search.specs.RecordFits.{depthOf}
+use Rattle.search.proofs.FitsInWords.{PlaceFits, SeatFits, seat-fits}
 use Rattle.search.proofs.PlaceBounds.{first-has-option, size-within, feature-below-16, option-below-16}
 use Rattle.search.proofs.PairSteps.{same-again}
 use Rattle.search.proofs.CandidatesBelow.{ChoicesWithin, first-below}

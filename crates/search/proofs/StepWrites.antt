@@ -21,7 +21,7 @@ use Rattle.search.specs.Clinic.{Clinic, noneLeft, emptyShare, withExampl
 use Rattle.search.specs.Candidates.{chosenOtherwise}
 use Rattle.search.specs.Step.{Tried, goOn, build, exhausted, pairEnded, afterTried, tried, stepAt, stepFrom, step, steps}
 use Rattle.search.proofs.Bits.{no-bit-above}
-use Rattle.search.proofs.Fits.{seat-fits}
+use Rattle.search.proofs.FitsInWords.{seat-fits}
 use Rattle.search.proofs.PlaceBounds.{feature-below-16, place-at-work}
 use Rattle.search.proofs.ClinicFits.{ClinicFits}
 

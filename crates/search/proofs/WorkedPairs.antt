@@ -11,17 +11,17 @@ use native.Mathlib.Omega.{arith}
 use lib.Dec.{eqb}
 use borrow.Author.Tests.{eqb-true, eqb-false}
 use Rattle.builds.specs.Catalogue.{Catalogue}
-use Rattle.builds.specs.Every.{Every}
+use Rattle.builds.specs.Lists.{Every}
 use Rattle.search.specs.Clinic.{Clinic}
 use Rattle.search.specs.Count.{pairSearch}
 use Rattle.search.proofs.TrialLength.{FoundOf, pair-found}
 use Rattle.search.proofs.PairSteps.{withFound}
 use Rattle.search.proofs.PairsOfAJob.{isPair, among}
-use Rattle.search.proofs.PairView.{Whole, HasPlace, View, example-whole}
+use Rattle.search.proofs.PairView.{WholeClinic, HasPlace, View, example-whole}
 use Rattle.search.proofs.JobSteps.{worked}
 
 found-whole : (i a : ℕ) → HasPlace (i, a) → (found : Option (List ℕ)) → FoundOf 16 found
-    → (clinic : Clinic) → Whole clinic → Whole (withFound i a found clinic)
+    → (clinic : Clinic) → WholeClinic clinic → WholeClinic (withFound i a found clinic)
 found-whole i a fits none full clinic w = w
 found-whole i a fits (some example) full clinic w = example-whole i a fits example (full example refl) clinic w
 
@@ -34,8 +34,8 @@ module _ (catalogue : Catalogue) (choices : List ℕ) where
   abbrev found : ℕ → ℕ → Option (List ℕ)
   found i a = pairSearch catalogue choices i a .found
 
-  pub worked-whole : {ps : List (ℕ × ℕ)} → Every HasPlace ps → (clinic : Clinic) → Whole clinic
-      → Whole (worked catalogue choices ps clinic)
+  pub worked-whole : {ps : List (ℕ × ℕ)} → Every HasPlace ps → (clinic : Clinic) → WholeClinic clinic
+      → WholeClinic (worked catalogue choices ps clinic)
   unfolding worked
   worked-whole Every.none clinic w = w
   worked-whole (Every.also {x = p} fits later) clinic w =
@@ -50,13 +50,13 @@ module _ (catalogue : Catalogue) (choices : List ℕ) where
   worked-nothing (Every.also {x = p} nothing later) clinic = rw nothing (worked-nothing later clinic)
 
   module _ {A : Type 0} {see : Clinic → A} {shown : List ℕ → A} {i a : ℕ} (view : View see shown i a) where
-    own-seen : HasPlace (i, a) → (sought : Option (List ℕ)) → FoundOf 16 sought → (clinic : Clinic) → Whole clinic
+    own-seen : HasPlace (i, a) → (sought : Option (List ℕ)) → FoundOf 16 sought → (clinic : Clinic) → WholeClinic clinic
         → see (withFound i a sought clinic) ≡ shownOr shown sought (see clinic)
     own-seen fits none full clinic w = refl
     own-seen fits (some example) full clinic w = view .own fits example (full example refl) clinic w
 
     other-seen : (j b : ℕ) → HasPlace (j, b) → (i ≡ j → a ≢ b) → (sought : Option (List ℕ)) → FoundOf 16 sought
-        → (clinic : Clinic) → Whole clinic → see (withFound j b sought clinic) ≡ see clinic
+        → (clinic : Clinic) → WholeClinic clinic → see (withFound j b sought clinic) ≡ see clinic
     other-seen j b fits apart none full clinic w = refl
     other-seen j b fits apart (some example) full clinic w = view .other j b fits apart example (full example refl) clinic w
 
@@ -64,7 +64,7 @@ module _ (catalogue : Catalogue) (choices : List ℕ) where
     abbrev seenIf : Bool → A → A
     seenIf t before = cond t (shownOr shown (found i a) before) before
 
-    pair-seen : (j b : ℕ) → HasPlace (j, b) → (clinic : Clinic) → Whole clinic
+    pair-seen : (j b : ℕ) → HasPlace (j, b) → (clinic : Clinic) → WholeClinic clinic
         → see (withFound j b (found j b) clinic) ≡ seenIf (isPair i a (j, b)) (see clinic)
     pair-seen j b fits clinic w = go (eqb i j) (eqb a b) refl refl
       where
@@ -92,7 +92,7 @@ module _ (catalogue : Catalogue) (choices : List ℕ) where
         go false sought = refl
     seen-again false u before = refl
 
-    pub worked-seen : {ps : List (ℕ × ℕ)} → Every HasPlace ps → (clinic : Clinic) → Whole clinic
+    pub worked-seen : {ps : List (ℕ × ℕ)} → Every HasPlace ps → (clinic : Clinic) → WholeClinic clinic
         → see (worked catalogue choices ps clinic) ≡ seenIf (among i a ps) (see clinic)
     unfolding worked among
     worked-seen Every.none clinic w = refl

@@ -13,6 +13,3 @@ withBit mask a = cond (hasBit mask a) mask (mask + 2 ^ a)
 unfoldable pub bitsBelow : ℕ → ℕ → ℕ
 bitsBelow zero mask = 0
 bitsBelow (suc a) mask = cond (hasBit mask a) 1 0 + bitsBelow a mask
-
-abbrev pub bitCount : ℕ → ℕ
-bitCount mask = bitsBelow 16 mask

@@ -6,11 +6,10 @@ use mathlib.Core.List.{List, [], _∷_}
 use mathlib.Core.Option.{Option, none, some}
 use lib.ListN.{getD, set}
 use lib.Dec.{ltb, eqb}
-use Rattle.builds.specs.Builds.{optionsOf}
+use Rattle.builds.specs.Catalogue.{optionsOf}
 
 unfoldable pub candidates : List ℕ → List ℕ → ℕ → ℕ → ℕ → List ℕ
-candidates sizes choices i a j =
-    cond (eqb j i) (a ∷ [])
+candidates sizes choices i a j = cond (eqb j i) (a ∷ [])
     (cond (eqb (getD choices j 255) 255) (optionsOf (getD sizes j 0)) (getD choices j 255 ∷ []))
 
 unfoldable pub firstCandidate : List ℕ → List ℕ → ℕ → ℕ → ℕ → ℕ

@@ -1,7 +1,8 @@
 -- What is one clinic's own: its seat's record and its share of the board, 4,096 bytes.
 use Prim.Native.Nat.{ℕ, _+_, _*_}
-use mathlib.Core.List.{List, [], _++_}
-use lib.ListN.{length, getD, take, drop, set, replicate}
+use mathlib.Core.List.{List, []}
+use lib.ListN.{getD, take, drop, set, replicate}
+use Rattle.builds.specs.Lists.{put}
 use Rattle.search.specs.declared.Seat.{Seat}
 use Rattle.search.specs.declared.State.{State}
 use Rattle.search.specs.declared.State.the-variants.{Closed}
@@ -43,10 +44,6 @@ closedSeat = freshSeat Closed nothing16
 abbrev pub closedClinic : Clinic
 closedClinic = record { seat = closedSeat; share = emptyShare }
 
--- bytes written over those that stand from a place on
-unfoldable pub put : List ℕ → ℕ → List ℕ → List ℕ
-put bytes place new = take place bytes ++ (new ++ drop (place + length new) bytes)
-
 -- where the example for option a of feature i stands in a share
 abbrev pub examplePlace : ℕ → ℕ → ℕ
 examplePlace i a = i * 256 + a * 16
@@ -56,15 +53,11 @@ exampleIn share i a = take 16 (drop (examplePlace i a) share)
 
 -- the example written, the bit set
 unfoldable pub withExample : ℕ → ℕ → List ℕ → Clinic → Clinic
-withExample i a example clinic = record {
-  seat = seatWith (clinic .seat .state) (set (clinic .seat .masks) i (withBit (getD (clinic .seat .masks) i 0) a))
-      (clinic .seat .trial) (clinic .seat);
-  share = put (clinic .share) (examplePlace i a) example;
-}
+withExample i a example clinic =
+    let masks = set (clinic .seat .masks) i (withBit (getD (clinic .seat .masks) i 0) a) in
+    let seat = seatWith (clinic .seat .state) masks (clinic .seat .trial) (clinic .seat) in
+    record { seat = seat; share = put (clinic .share) (examplePlace i a) example }
 
 -- another state and trial
 abbrev pub moved : State → List ℕ → Clinic → Clinic
-moved state trial clinic = record {
-  seat = seatWith state (clinic .seat .masks) trial (clinic .seat);
-  share = clinic .share;
-}
+moved state trial clinic = record { seat = seatWith state (clinic .seat .masks) trial (clinic .seat); share = clinic .share }

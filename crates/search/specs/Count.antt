@@ -1,13 +1,14 @@
 -- K as a sum over the pairs of a job, one for each option tried and one for each pair that rule 1 ends: what P6 and P8
--- count. That the steps of `Step` bring a posted job to readiness in just so many is a theorem.
+-- count. That the steps of `Step` bring a posted job to readiness in just so many is a theorem. The worked cases and the
+-- laws of the search cite it; the promises say K by `ReadyAfter` of `Step`.
 use Prim.Native.Nat.{ℕ, zero, suc, _+_}
 use mathlib.Core.Bool.{Bool, cond}
 use mathlib.Core.Option.{Option, none, some}
 use mathlib.Core.List.{List, [], _∷_, _++_, map}
 use lib.ListN.{length, set}
-use Rattle.builds.specs.Catalogue.{Catalogue, rulesOf}
+use Rattle.builds.specs.Lists.{sum}
+use Rattle.builds.specs.Catalogue.{Catalogue, rulesOf, optionsOf}
 use Rattle.builds.specs.Rule.{passes}
-use Rattle.builds.specs.Builds.{optionsOf}
 use Rattle.search.specs.Clinic.{nothing16}
 use Rattle.search.specs.Candidates.{candidates, chosenOtherwise}
 
@@ -60,10 +61,6 @@ pairsFrom i (size ∷ sizes) = map (λ (a : ℕ). (i, a)) (optionsOf size) ++ pa
 
 unfoldable pub pairCounts : Catalogue → List ℕ → List ℕ
 pairCounts catalogue choices = map (λ (p : ℕ × ℕ). pairSearch catalogue choices (p .0) (p .1) .count) (pairsFrom 0 (catalogue .sizes))
-
-unfoldable pub sum : List ℕ → ℕ
-sum [] = 0
-sum (x ∷ xs) = x + sum xs
 
 unfoldable pub jobSteps : Catalogue → List ℕ → ℕ
 jobSteps catalogue choices = sum (pairCounts catalogue choices)

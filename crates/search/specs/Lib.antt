@@ -6,6 +6,6 @@ pub mod Clinic
 pub mod Candidates
 pub mod Step
 pub mod Count
-pub mod Fit
+pub mod RecordFits
 pub mod Trolley
 pub mod inner

@@ -29,30 +29,24 @@ goOnIf none depth trial otherwise = otherwise
 -- the same at the depth before, with the option placed there.
 unfoldable pub givenUp : List ℕ → List ℕ → ℕ → ℕ → ℕ → ℕ → List ℕ → Tried
 givenUp sizes choices i a zero v trial = goOnIf (nextCandidate sizes choices i a zero v) zero trial exhausted
-givenUp sizes choices i a (suc j) v trial =
-    goOnIf (nextCandidate sizes choices i a (suc j) v) (suc j) trial
+givenUp sizes choices i a (suc j) v trial = goOnIf (nextCandidate sizes choices i a (suc j) v) (suc j) trial
     (givenUp sizes choices i a j (getD trial j 255) (set trial j 255))
 
 -- Rules 2 to 5: v is placed at depth j and tested.
 unfoldable pub tried : Catalogue → List ℕ → ℕ → ℕ → ℕ → ℕ → List ℕ → Tried
-tried catalogue choices i a j v trial =
-    cond (passes (rulesOf catalogue) j (set trial j v))
-    (cond (eqb (j + 1) (length (catalogue .sizes)))
-    (build (set trial j v))
+tried catalogue choices i a j v trial = cond (passes (rulesOf catalogue) j (set trial j v))
+    (cond (eqb (j + 1) (length (catalogue .sizes))) (build (set trial j v))
     (goOn (j + 1) (firstCandidate (catalogue .sizes) choices i a (j + 1)) (set trial j v)))
     (givenUp (catalogue .sizes) choices i a j v trial)
 
 -- A pair starts at depth 0 with the first candidate there.
 abbrev pub started : List ℕ → List ℕ → ℕ → ℕ → State
-started sizes choices i a =
-    AtWork (record { feature = i; option = a; depth = 0; next = firstCandidate sizes choices i a 0 })
+started sizes choices i a = AtWork (record { feature = i; option = a; depth = 0; next = firstCandidate sizes choices i a 0 })
 
 -- The pair after (i, a), feature by feature and option by option; after the last the seat is ready.
 unfoldable pub afterPair : List ℕ → List ℕ → ℕ → ℕ → State
-afterPair sizes choices i a =
-    cond (ltb (a + 1) (getD sizes i 0)) (started sizes choices i (a + 1))
-    (cond (ltb (i + 1) (length sizes)) (started sizes choices (i + 1) 0)
-    Ready)
+afterPair sizes choices i a = cond (ltb (a + 1) (getD sizes i 0)) (started sizes choices i (a + 1))
+    (cond (ltb (i + 1) (length sizes)) (started sizes choices (i + 1) 0) Ready)
 
 -- Ending a pair and starting the next belong to the same step.
 unfoldable pub pairEnded : List ℕ → ℕ → ℕ → Clinic → Clinic
@@ -66,8 +60,7 @@ afterTried sizes i a clinic exhausted = pairEnded sizes i a clinic
 
 -- Rule 1, then the others.
 unfoldable pub stepAt : Catalogue → Place → Clinic → Clinic
-stepAt catalogue p clinic =
-    cond (chosenOtherwise (clinic .seat .choices) (p .feature) (p .option))
+stepAt catalogue p clinic = cond (chosenOtherwise (clinic .seat .choices) (p .feature) (p .option))
     (pairEnded (catalogue .sizes) (p .feature) (p .option) clinic)
     (afterTried (catalogue .sizes) (p .feature) (p .option) clinic
     (tried catalogue (clinic .seat .choices) (p .feature) (p .option) (p .depth) (p .next) (clinic .seat .trial)))
@@ -87,10 +80,7 @@ steps catalogue (suc n) clinic = steps catalogue n (step catalogue clinic)
 
 -- Posting a job under some choices: masks emptied, share filled with 255, pair (0, 0).
 unfoldable pub posted : List ℕ → List ℕ → Clinic
-posted sizes choices = record {
-  seat = freshSeat (started sizes choices 0 0) choices;
-  share = emptyShare;
-}
+posted sizes choices = record { seat = freshSeat (started sizes choices 0 0) choices; share = emptyShare }
 
 -- K, for a job as its posting left record and share: after K steps the seat is ready, and after fewer it is at work.
 pub record ReadyAfter (catalogue : Catalogue) (start : Clinic) (k : ℕ) : Type 0 where

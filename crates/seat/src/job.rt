@@ -1,6 +1,7 @@
 // Posting a job, and closing a seat. All that a posting keeps are the choices, as they then are.
 use crate::candidates::started;
 use crate::share::empty;
+use runs::Asking;
 use search::Seat;
 use search::State;
 ghost use mathlib.Core.Path.{_≡_};
@@ -8,34 +9,36 @@ ghost use Prim.Native.Nat.{_<_, _≤_};
 ghost use lib.ListN.{length, getD, set};
 ghost use Rattle.search.specs.Clinic.{clinicOf, closedClinic, closedSeat};
 ghost use Rattle.search.specs.Step.{posted};
+ghost use Rattle.runs.specs.Perform.{leftBy};
+ghost use Rattle.seat.specs.inner.Placeable.{Placeable};
 
-pub fn enter(seat: Seat, share: &mut [u8], sizes: &[u8]) -> Seat
-    requires { ⌜ (length (now share) ≡ 4096) × (1 ≤ getD (now sizes) 0 0) ⌝ }
-    ensures { λ r. ⌜ clinicOf r (now (share .exit)) ≡ posted (now (sizes .entry)) (seat .choices) ⌝ }
+// What an accepted asking makes of a clinic: it posts a job, it leaves, or it reads and changes nothing.
+pub fn left_by(asking: Asking, seat: Seat, share: &mut [u8], sizes: &[u8]) -> Seat
+    requires { ⌜ (length (now share) ≡ 4096) × (1 ≤ getD (now sizes) 0 0) × Placeable asking ⌝ }
+    ensures { λ r. ⌜ clinicOf r (now (share .exit))
+        ≡ leftBy (now (sizes .entry)) asking (clinicOf seat (now (share .entry))) ⌝ }
 {
-    let choices = seat.choices;
-    post(choices, share, sizes)
+    match asking {
+        Asking::Enter => post([255u8; 16], share, sizes),
+        Asking::Leave => close(share),
+        Asking::Choose { feature, option } => post_with(seat, share, sizes, feature, option),
+        Asking::Relax { feature } => post_with(seat, share, sizes, feature, 255),
+        Asking::Read(_) => seat,
+    }
 }
 
-pub fn choose(seat: Seat, share: &mut [u8], sizes: &[u8], feature: usize, option: u8) -> Seat
-    requires { ⌜ (feature < 16) × (length (now share) ≡ 4096) × (1 ≤ getD (now sizes) 0 0) ⌝ }
+// A job under the choices with one set, or dropped.
+fn post_with(seat: Seat, share: &mut [u8], sizes: &[u8], feature: usize, option: usize) -> Seat
+    requires { ⌜ (feature < 16) × (option < 256) × (length (now share) ≡ 4096) × (1 ≤ getD (now sizes) 0 0) ⌝ }
     ensures { λ r. ⌜ clinicOf r (now (share .exit))
         ≡ posted (now (sizes .entry)) (set (seat .choices) feature option) ⌝ }
 {
     let mut choices = seat.choices;
-    choices[feature] = option;
+    choices[feature] = (option % 256) as u8;
     post(choices, share, sizes)
 }
 
-pub fn relax(seat: Seat, share: &mut [u8], sizes: &[u8], feature: usize) -> Seat
-    requires { ⌜ (feature < 16) × (length (now share) ≡ 4096) × (1 ≤ getD (now sizes) 0 0) ⌝ }
-    ensures { λ r. ⌜ clinicOf r (now (share .exit))
-        ≡ posted (now (sizes .entry)) (set (seat .choices) feature 255) ⌝ }
-{
-    choose(seat, share, sizes, feature, 255)
-}
-
-pub fn close(share: &mut [u8]) -> Seat
+fn close(share: &mut [u8]) -> Seat
     requires { ⌜ length (now share) ≡ 4096 ⌝ }
     ensures { λ r. ⌜ clinicOf r (now (share .exit)) ≡ closedClinic ⌝ }
 {

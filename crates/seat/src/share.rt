@@ -2,7 +2,7 @@
 ghost use mathlib.Core.Path.{_≡_};
 ghost use Prim.Native.Nat.{_+_, _*_, _<_, _≤_};
 ghost use lib.ListN.{length, replicate};
-ghost use Rattle.search.specs.Clinic.{put};
+ghost use Rattle.builds.specs.Lists.{put};
 
 // Fills a share with 255: no example anywhere.
 pub fn empty(share: &mut [u8])

@@ -27,7 +27,7 @@ use denote.Triple.Walked.{Stays, gave-slice, stay-dropped, AllGo, goes-gave-slic
 use Rattle.search.specs.declared.Seat.{Seat}
 use Rattle.builds.specs.Catalogue.{catalogueOf}
 use Rattle.search.specs.Clinic.{clinicOf}
-use Rattle.step.specs.inner.Ways.{Stepped}
+use Rattle.step.specs.inner.StepContracts.{Stepped}
 use Rattle.search.proofs.Seat as T
 use Rattle.search.proofs.Seat.Laws as T′
 

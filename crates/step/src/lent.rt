@@ -4,7 +4,7 @@ use search::Seat;
 ghost use mathlib.Core.Path.{_≡_};
 ghost use Rattle.builds.specs.Catalogue.{catalogueOf};
 ghost use Rattle.search.specs.Clinic.{clinicOf};
-ghost use Rattle.step.specs.inner.Ways.{StepNeeds, Stepped};
+ghost use Rattle.step.specs.inner.StepContracts.{StepNeeds, Stepped};
 
 // The step, said of the record behind the reference.
 pub fn step_in(

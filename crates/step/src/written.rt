@@ -1,4 +1,5 @@
 // One step of the written search.
+use numbers::byte;
 use search::Place;
 use search::Seat;
 use search::State;
@@ -17,8 +18,7 @@ ghost use Rattle.search.specs.Candidates.{chosenOtherwise};
 ghost use Rattle.search.specs.Clinic.{clinicOf};
 ghost use Rattle.search.specs.Step.{givenUp, tried, started, afterPair, stepAt};
 ghost use Rattle.search.specs.inner.Placed.{keptBefore, PlacedAt, edgeBytes};
-ghost use Rattle.step.specs.inner.Ways.{triedOf, depthIn};
-ghost use Rattle.step.specs.inner.Ways.{StepNeeds, Stepped, TryNeeds, ComesTo, masksWith};
+ghost use Rattle.step.specs.inner.StepContracts.{triedOf, depthIn, StepNeeds, Stepped, TryNeeds, ComesTo, masksWith};
 
 // What comes of trying an option.
 pub enum Way {
@@ -185,7 +185,7 @@ fn try_next(
     let j = depth as usize;
     let from = j * 64;
     let to = from + byte(counts[j]);
-    if !catalogue::passes(rules, j, &places[from..to], placed) {
+    if !placed::passes(rules, j, &places[from..to], placed) {
         return given_up(sizes, choices, i, option, depth, placed);
     }
     if j + 1 == sizes.len() {
@@ -313,10 +313,4 @@ fn after_pair(sizes: &[u8], choices: &[u8], feature: u8, option: u8) -> State
         return started(sizes, choices, feature + 1, 0);
     }
     State::Ready
-}
-
-fn byte(x: u8) -> usize
-    ensures { λ r. ⌜ (r ≡ x) × (r < 256) ⌝ }
-{
-    x as usize
 }

@@ -1,4 +1,3 @@
 pub mod Computing
 pub mod Worked
-pub mod WorkedRuns
 pub mod TrolleyFits

@@ -5,13 +5,14 @@ use mathlib.Core.Logic.{inl}
 use mathlib.Core.List.{[], _∷_}
 use mathlib.Core.Option.{some}
 use native.Mathlib.Omega.{arith}
-use Rattle.builds.specs.Rule.{optionsAt, matches, someRow, satisfies, satisfiesAll}
+use Rattle.builds.specs.Rule.{matches, someRow, satisfies, satisfiesAll}
 use Rattle.builds.specs.Catalogue.{rowsRead, ruleRead, rulesRead, rulesOf}
-use Rattle.builds.specs.Fault.{sizesFault, member, featuresFault, rowFits, rowsFault, ruleFault, rulesFault, faultOf}
-use Rattle.builds.specs.Builds.{countFrom, inFront, instantiations, keepsChoices, keep, builds, buildsWith}
+use Rattle.builds.specs.Lists.{member, countFrom}
+use Rattle.builds.specs.Fault.{sizesFault, featuresFault, rowFits, rowsFault, ruleFault, rulesFault, faultOf}
+use Rattle.builds.specs.ListedBuilds.{inFront, instantiations, keepsChoices, keep, builds, buildsWith}
 use Rattle.builds.proofs.Padded.{nothing-there}
 use Rattle.builds.proofs.Dictionary.{FirstIs}
-use Rattle.builds.proofs.Builds.{first-listed}
+use Rattle.builds.proofs.ListedBuilds.{first-listed}
 use Rattle.search.proofs.SearchPremises.{SearchPremises}
 use Rattle.search.specs.Trolley.{trolley, noChoices}
 
@@ -20,5 +21,5 @@ unfolding trolley sizesFault member featuresFault rowFits rowsFault ruleFault ru
 trolley-fits = record { faultless = refl; feature = omega arith; option = omega arith; choices-fit = λ f l. inl (nothing-there 16 f) }
 
 pub trolley-first : FirstIs trolley noChoices 1 2 (some (1 ∷ 2 ∷ 0 ∷ []))
-unfolding trolley optionsAt matches someRow satisfies satisfiesAll rowsRead ruleRead rulesRead rulesOf countFrom inFront instantiations keepsChoices keep builds buildsWith
+unfolding trolley matches someRow satisfies satisfiesAll rowsRead ruleRead rulesRead rulesOf countFrom inFront instantiations keepsChoices keep builds buildsWith
 trolley-first = first-listed trolley noChoices 1 2

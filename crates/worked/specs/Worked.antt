@@ -7,7 +7,7 @@ use lib.ListN.{getD, take, replicate}
 use lib.Dec.{eqb}
 use Rattle.builds.specs.Rule.{Rule}
 use Rattle.builds.specs.Catalogue.{Catalogue, rulesOf}
-use Rattle.builds.specs.Builds.{builds}
+use Rattle.builds.specs.ListedBuilds.{builds}
 use Rattle.search.specs.declared.State.{State}
 use Rattle.search.specs.declared.State.the-variants.{Closed, Ready, AtWork}
 use Rattle.search.specs.Clinic.{Clinic, exampleIn}

@@ -2,13 +2,15 @@
 use Prim.Native.Nat.{ℕ, _<_}
 use mathlib.Core.Path.{_≡_, refl, sym}
 use mathlib.Core.Bool.{Bool, true, false, _||_, true≢false}
-use mathlib.Core.List.{List, [], _∷_, _++_}
+use mathlib.Core.HLevel.{¬-prop}
+use mathlib.Core.List.{List, [], _∷_, _++_, List·Nodup, Pairwise·nil, Pairwise·cons}
 use lib.Dec.{eqb}
 use borrow.Author.Tests.{ltb-true, lt-ltb, eqb-false, ne-eqb}
-use Rattle.builds.specs.Fault.{member, featuresFault}
-use Rattle.builds.specs.Every.{Every, EveryTwo}
+use Rattle.builds.specs.Lists.{member, Every}
+use Rattle.builds.specs.Fault.{featuresFault}
 use Rattle.builds.proofs.Inversion.{orElse-zero, when-zero, when-not-zero}
 use Rattle.builds.proofs.Every.{every-head, every-tail, every-weaken, every-both}
+use Rattle.builds.proofs.Entries.{every-member, every-of-members}
 
 or-false : (a b : Bool) → (a || b) ≡ false → (a ≡ false) × (b ≡ false)
 or-false true b h = absurd (true≢false h)
@@ -34,10 +36,10 @@ unseen-join (s ∷ seen) f g h d =
 
 pub record Features (count : ℕ) (seen fs : List ℕ) : Type 0 where
   pub known : Every (λ (f : ℕ). f < count) fs
-  pub different : EveryTwo (λ (f g : ℕ). f ≡ g → ⊥) fs
+  pub different : List·Nodup fs
   pub unseen : Every (Unseen seen) fs
 
-pub none-seen : {count : ℕ} {fs : List ℕ} → Every (λ (f : ℕ). f < count) fs → EveryTwo (λ (f g : ℕ). f ≡ g → ⊥) fs
+pub none-seen : {count : ℕ} {fs : List ℕ} → Every (λ (f : ℕ). f < count) fs → List·Nodup fs
     → Features count [] fs
 unfolding member
 none-seen known different =
@@ -45,7 +47,7 @@ none-seen known different =
 
 pub features-read : (count : ℕ) (seen fs : List ℕ) → featuresFault count seen fs ≡ 0 → Features count seen fs
 unfolding featuresFault
-features-read count seen [] h = record { known = Every.none; different = EveryTwo.none; unseen = Every.none }
+features-read count seen [] h = record { known = Every.none; different = Pairwise·nil; unseen = Every.none }
 features-read count seen (f ∷ fs) h =
     let t1 = orElse-zero _ _ h in
     let t2 = orElse-zero _ _ (t1 .1) in
@@ -53,7 +55,7 @@ features-read count seen (f ∷ fs) h =
     let later = features-read count (seen ++ f ∷ []) fs (t3 .0) in
     record {
       known = Every.also (ltb-true f count (when-not-zero _ 15 (t1 .0))) (later .known);
-      different = EveryTwo.also (every-weaken (λ (g : ℕ) u. unseen-split seen f g u .1) (later .unseen)) (later .different);
+      different = Pairwise·cons (every-member (λ (g : ℕ). ¬-prop) (every-weaken (λ (g : ℕ) u. unseen-split seen f g u .1) (later .unseen))) (later .different);
       unseen = Every.also (when-zero _ 16 (t2 .0)) (every-weaken (λ (g : ℕ) u. unseen-split seen f g u .0) (later .unseen));
     }
 
@@ -61,12 +63,12 @@ features-join : (count : ℕ) (seen : List ℕ) {f : ℕ} {fs : List ℕ} → Fe
     → Features count (seen ++ f ∷ []) fs
 features-join count seen {f} {fs} p = go (p .different)
   where
-    go : EveryTwo (λ (f g : ℕ). f ≡ g → ⊥) (f ∷ fs) → Features count (seen ++ f ∷ []) fs
-    go (EveryTwo.also now later) =
+    go : List·Nodup (f ∷ fs) → Features count (seen ++ f ∷ []) fs
+    go (Pairwise·cons now later) =
         record {
           known = every-tail (p .known);
           different = later;
-          unseen = every-weaken (λ (g : ℕ) u. unseen-join seen f g (u .0) (u .1)) (every-both (every-tail (p .unseen)) now);
+          unseen = every-weaken (λ (g : ℕ) u. unseen-join seen f g (u .0) (u .1)) (every-both (every-tail (p .unseen)) (every-of-members fs now));
         }
 
 pub features-written : (count : ℕ) (seen fs : List ℕ) → Features count seen fs → featuresFault count seen fs ≡ 0

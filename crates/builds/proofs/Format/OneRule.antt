@@ -2,23 +2,23 @@
 -- writing-out of a well-formed rule, before whatever follows, has no fault and reads back.
 use Prim.Native.Nat.{ℕ, _+_, _*_, _≤_}
 use mathlib.Core.Path.{_≡_, refl, sym}
-use mathlib.Core.List.{List, [], _∷_, _++_, append-assoc}
+use mathlib.Core.List.{List, [], _∷_, _++_, flatten, append-assoc}
 use native.Mathlib.Omega.{arith}
 use lib.ListN.{length, take, drop, length-append, length-drop, take-append-drop}
 use lib.Seq.{length-take-le, take-at, drop-at, drop-drop}
 use Rattle.builds.specs.Rule.{Rule}
 use Rattle.builds.specs.Catalogue.{arity, rowCount, rowsBegin, width, featuresRead, rowsRead, ruleRead}
 use Rattle.builds.specs.Fault.{ruleFault}
-use Rattle.builds.specs.Every.{Every}
-use Rattle.builds.specs.Format.{joined, ruleWritten, WellFormed}
-use Rattle.builds.proofs.Inversion.{Passed, ruleFault-passed, passed-ruleFault}
+use Rattle.builds.specs.Lists.{Every}
+use Rattle.builds.specs.Format.{ruleWritten, WellFormed}
+use Rattle.builds.proofs.Inversion.{RulePassed, ruleFault-passed, passed-ruleFault}
 use Rattle.builds.proofs.Every.{every-weaken, together-length}
 use Rattle.builds.proofs.Format.Rows.{rows-count, rows-joined, rows-read, rows-written, rows-length, rows-back}
 use Rattle.builds.proofs.Format.Features.{none-seen, features-read, features-written}
 
 -- ---- reading
 
-features-length : (sizes list : List ℕ) → Passed sizes list → length (featuresRead list) ≡ arity list
+features-length : (sizes list : List ℕ) → RulePassed sizes list → length (featuresRead list) ≡ arity list
 features-length sizes list p = length-take-le (arity list) (drop 2 list) (omega (arith, length-drop 2 list, p))
 
 pub rule-read : (sizes list : List ℕ) → ruleFault sizes list ≡ 0 → WellFormed sizes (ruleRead list)
@@ -40,7 +40,7 @@ rule-read sizes list h =
 drop-header : (k m : ℕ) (list : List ℕ) (n : ℕ) → drop (2 + n) (k ∷ m ∷ list) ≡ drop n list
 drop-header k m list n = sym (drop-drop n 2 (k ∷ m ∷ list))
 
-front-written : (sizes list : List ℕ) → Passed sizes list → ruleWritten (ruleRead list) ++ drop (width list) list ≡ list
+front-written : (sizes list : List ℕ) → RulePassed sizes list → ruleWritten (ruleRead list) ++ drop (width list) list ≡ list
 unfolding ruleRead ruleWritten
 front-written sizes [] p = absurd (omega arith)
 front-written sizes (k ∷ []) p = absurd (omega arith)
@@ -50,7 +50,7 @@ front-written sizes (k ∷ m ∷ list) p =
       ← drop-drop (k * m) (2 + k) (k ∷ m ∷ list),
       drop-header k m list k,
       rows-count k m (drop k list),
-      append-assoc (take k list) (joined (rowsRead k m (drop k list))) (drop (k * m) (drop k list)),
+      append-assoc (take k list) (flatten (rowsRead k m (drop k list))) (drop (k * m) (drop k list)),
       rows-joined k m (drop k list),
       take-append-drop k list,
     )
@@ -66,16 +66,16 @@ module _ (rule : Rule) (rest : List ℕ) where
   features-back : featuresRead (ruleWritten rule ++ rest) ≡ rule .features
   unfolding ruleWritten
   features-back =
-      rw append-assoc (take-at (rule .features) (joined (rule .rows) ++ rest) (length (rule .features)) refl)
+      rw append-assoc (take-at (rule .features) (flatten (rule .rows) ++ rest) (length (rule .features)) refl)
 
-  body-back : drop (rowsBegin (ruleWritten rule ++ rest)) (ruleWritten rule ++ rest) ≡ joined (rule .rows) ++ rest
+  body-back : drop (rowsBegin (ruleWritten rule ++ rest)) (ruleWritten rule ++ rest) ≡ flatten (rule .rows) ++ rest
   unfolding ruleWritten
   body-back =
       rw (
-        drop-header (length (rule .features)) (length (rule .rows)) (rule .features ++ joined (rule .rows) ++ rest) (length (rule .features)),
+        drop-header (length (rule .features)) (length (rule .rows)) (rule .features ++ flatten (rule .rows) ++ rest) (length (rule .features)),
         append-assoc,
       )
-      (drop-at (rule .features) (joined (rule .rows) ++ rest) (length (rule .features)) refl)
+      (drop-at (rule .features) (flatten (rule .rows) ++ rest) (length (rule .features)) refl)
 
   arity-back : arity (ruleWritten rule ++ rest) ≡ length (rule .features)
   unfolding ruleWritten
@@ -102,7 +102,7 @@ module _ (rule : Rule) (rest : List ℕ) where
           arity-back,
           count-back,
         )
-        (drop-at (joined (rule .rows)) rest (length (rule .features) * length (rule .rows)) (rows-length (length (rule .features)) rows-even))
+        (drop-at (flatten (rule .rows)) rest (length (rule .features) * length (rule .rows)) (rows-length (length (rule .features)) rows-even))
 
     written-length : length (ruleWritten rule ++ rest)
         ≡ 2 + length (rule .features) + length (rule .features) * length (rule .rows) + length rest
@@ -111,11 +111,11 @@ module _ (rule : Rule) (rest : List ℕ) where
         omega (
           arith,
           length-append (ruleWritten rule) rest,
-          length-append (rule .features) (joined (rule .rows)),
+          length-append (rule .features) (flatten (rule .rows)),
           rows-length (length (rule .features)) rows-even,
         )
 
-    written-passed : Passed sizes (ruleWritten rule ++ rest)
+    written-passed : RulePassed sizes (ruleWritten rule ++ rest)
     written-passed =
         record {
           has-header = omega (arith, written-length);

@@ -6,7 +6,7 @@ use mathlib.Core.Bool.{Bool, cond, _&&_, _||_}
 use mathlib.Core.List.{List, [], _∷_}
 use lib.ListN.{length, getD, take, drop}
 use lib.Dec.{leb, eqb}
-use Rattle.builds.specs.Every.{Every}
+use Rattle.builds.specs.Lists.{Every}
 use Rattle.builds.specs.Rule.{Rule, highest, someRow}
 use Rattle.builds.specs.Catalogue.{arity, width, featuresRead, rowsRead, isEmpty, ruleRead}
 

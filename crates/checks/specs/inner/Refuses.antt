@@ -7,7 +7,7 @@ use Rattle.builds.specs.Catalogue.{catalogueOf}
 use Rattle.runs.specs.declared.Desk.{Desk}
 use Rattle.runs.specs.Room.{roomOf}
 use Rattle.runs.specs.Call.{Call}
-use Rattle.runs.specs.Refusal.{refusal}
+use Rattle.runs.specs.RefusalTable.{refusal}
 
 -- a number is the call's refusal number, on every board of so many bytes
 abbrev pub Refuses : List ℕ → List ℕ → Desk → ℕ → Call → ℕ → Type 0

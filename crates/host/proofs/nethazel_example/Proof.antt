@@ -3,7 +3,9 @@ use Prim.Native.Nat.{_<_}
 use mathlib.Core.Path.{_≡_, sym, _∙_}
 use native.Mathlib.Omega.{arith}
 use borrow.Author.Needs.{needs}
-use Rattle.runs.specs.Call.{example}
+use Rattle.runs.specs.declared.Asking.the-variants.{Read}
+use Rattle.runs.specs.declared.Reading.the-variants.{Example}
+use Rattle.runs.specs.Call.{asks}
 use Rattle.host.specs.Door.{inside}
 use Rattle.host.proofs.StandingExample.{stands-nowhere, example-bounds, bytes-there, no-bytes}
 use Rattle.host.proofs.nethazel_example.Statement.{statement}
@@ -18,7 +20,8 @@ example-number-requires c κs = search needs
 -- the number is that of the call inside
 same : (c : tie.After-example-number) → let a = c .before .before .before .before .before .args in
     c .example-number .result
-    ≡ inside (record { sizes = a .sizes .now; list = a .rules .now }) (example (a .c) (a .i) (a .a)) (a .given) (a .board .now) .answer .number
+    ≡ inside (record { sizes = a .sizes .now; list = a .rules .now }) (asks (a .c) (Read (Example (a .i) (a .a))))
+    (a .given) (a .board .now) .answer .number
 same c = rw (← c .before .desk-of .ensures) (c .example-number .ensures)
 
 returns : tie.Need-returns

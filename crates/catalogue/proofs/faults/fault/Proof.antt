@@ -7,7 +7,7 @@ use borrow.Author.Needs.{needs}
 use borrow.Author.Tests.{lt-ltb, le-ltb, le-leb, lt-leb}
 use lib.ListN.{length}
 use Rattle.builds.specs.Fault.{faultOf, sizesFault, rulesFault}
-use Rattle.builds.proofs.Steps.{first-row, last-row}
+use Rattle.builds.proofs.ListWalks.{first-row, last-row}
 use Rattle.catalogue.proofs.faults.fault.Statement.{statement}
 use Rattle.catalogue.proofs.faults.fault.Tie as tie
 

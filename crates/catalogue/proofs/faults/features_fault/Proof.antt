@@ -9,8 +9,9 @@ use borrow.Author.Needs.{needs}
 use borrow.Author.Tests.{lt-ltb, le-ltb}
 use lib.ListN.{length, getD, take, drop}
 use lib.Seq.{length-take-le}
-use Rattle.builds.specs.Fault.{featuresFault, member}
-use Rattle.builds.proofs.Steps.{left-next, passed-next, left-none, last-row}
+use Rattle.builds.specs.Lists.{member}
+use Rattle.builds.specs.Fault.{featuresFault}
+use Rattle.builds.proofs.ListWalks.{left-next, passed-next, left-none, last-row}
 use Rattle.catalogue.proofs.faults.features_fault.Statement.{statement}
 use Rattle.catalogue.proofs.faults.features_fault.Tie as tie
 

@@ -8,8 +8,8 @@ use native.Mathlib.Omega.{arith}
 use borrow.Author.Needs.{needs}
 use borrow.Author.Tests.{eq-eqb, ne-eqb}
 use lib.ListN.{length, getD, drop}
-use Rattle.builds.specs.Fault.{member}
-use Rattle.builds.proofs.Steps.{left-next, left-none}
+use Rattle.builds.specs.Lists.{member}
+use Rattle.builds.proofs.ListWalks.{left-next, left-none}
 use Rattle.catalogue.proofs.faults.named.Statement.{statement}
 use Rattle.catalogue.proofs.faults.named.Tie as tie
 

@@ -9,7 +9,7 @@ use borrow.Author.Needs.{needs}
 use borrow.Author.Tests.{lt-ltb, le-ltb}
 use lib.ListN.{length, getD, drop}
 use Rattle.builds.specs.Fault.{rowFits}
-use Rattle.builds.proofs.Steps.{left-next, left-none}
+use Rattle.builds.proofs.ListWalks.{left-next, left-none}
 use Rattle.catalogue.proofs.faults.row_fits.Statement.{statement}
 use Rattle.catalogue.proofs.faults.row_fits.Tie as tie
 

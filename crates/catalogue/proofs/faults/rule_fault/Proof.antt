@@ -9,7 +9,7 @@ use lib.ListN.{length, take, drop, length-take, length-drop}
 use Rattle.builds.specs.Catalogue.{arity, rowCount, rowsBegin, featuresRead}
 use Rattle.builds.specs.Fault.{ruleFault, featuresFault, rowsFault}
 use Rattle.builds.proofs.Alone.{rows-alone}
-use Rattle.builds.proofs.Steps.{first-row, last-row}
+use Rattle.builds.proofs.ListWalks.{first-row, last-row}
 use Rattle.builds.proofs.Widths.{rows-few}
 use Rattle.catalogue.proofs.faults.rule_fault.Statement.{statement}
 use Rattle.catalogue.proofs.faults.rule_fault.Tie as tie

@@ -12,8 +12,8 @@ use lib.Seq.{drop-drop}
 use Rattle.builds.specs.Catalogue.{width, isEmpty}
 use Rattle.builds.specs.Fault.{ruleFault, rulesFault}
 use Rattle.builds.proofs.Inversion.{ruleFault-zero}
-use Rattle.builds.proofs.WholeRule.{Whole}
-use Rattle.builds.proofs.Steps.{left-none, left-lent, first-row}
+use Rattle.builds.proofs.WholeRule.{WholeRule}
+use Rattle.builds.proofs.ListWalks.{left-none, left-lent, first-row}
 use Rattle.catalogue.proofs.faults.rules_fault.Statement.{statement}
 use Rattle.catalogue.proofs.faults.rules_fault.Tie as tie
 
@@ -63,7 +63,7 @@ fault-here c =
     let turn = c .before .before .before .before in
     sym (c .rule-fault .ensures ∙ ap (ruleFault (sizes-at turn)) (left-lent (rules-at turn) (turn .loop .place)))
 
-whole-here : (c : tie.Else2 Inv-loop μ-loop) → Whole (rest-at (c .before .before .before .before .before))
+whole-here : (c : tie.Else2 Inv-loop μ-loop) → WholeRule (rest-at (c .before .before .before .before .before))
 whole-here c = ruleFault-zero (sizes-at (c .before .before .before .before .before)) (rest-at (c .before .before .before .before .before)) (fault-here (c .before) ∙ c .if2 .left)
 
 width-here : (c : tie.After-rule-width Inv-loop μ-loop) → c .rule-width .result ≡ width (rest-at (c .before .before .before .before .before .before))

@@ -8,7 +8,7 @@ use borrow.Author.Needs.{needs}
 use borrow.Author.Tests.{le-leb, lt-leb}
 use lib.ListN.{length, getD, drop}
 use Rattle.builds.specs.Fault.{sizesFault}
-use Rattle.builds.proofs.Steps.{left-next, left-none}
+use Rattle.builds.proofs.ListWalks.{left-next, left-none}
 use Rattle.catalogue.proofs.faults.sizes_fault.Statement.{statement}
 use Rattle.catalogue.proofs.faults.sizes_fault.Tie as tie
 

@@ -7,10 +7,11 @@ use native.Mathlib.Omega.{arith}
 use borrow.Author.Needs.{needs}
 use borrow.Author.Tests.{le-leb, lt-leb, not-true, not-false}
 use Rattle.search.specs.declared.Seat.{Seat}
-use Rattle.search.specs.Fit.{everyBelow, seatFits}
+use Rattle.builds.specs.Lists.{everyBelow}
+use Rattle.search.specs.RecordFits.{seatFits}
 use Rattle.search.proofs.EveryBelow.{one-more, one-fails, all-passed}
 use Rattle.runs.specs.Room.{seatAt}
-use Rattle.runs.specs.Fit.{deskFits}
+use Rattle.runs.specs.DeskFits.{deskFits}
 use Rattle.checks.proofs.table.desk_fits.Statement.{statement}
 use Rattle.checks.proofs.table.desk_fits.Tie as tie
 

@@ -3,8 +3,8 @@ use mathlib.Core.Path.{refl, sym, _∙_}
 use borrow.Author.Needs.{needs}
 use borrow.Author.Tests.{eq-eqb, ne-eqb}
 use lib.ListN.{length}
-use Rattle.builds.proofs.Steps.{last-row}
-use Rattle.runs.specs.Refusal.{openRefusal}
+use Rattle.builds.proofs.ListWalks.{last-row}
+use Rattle.runs.specs.RefusalTable.{openRefusal}
 use Rattle.checks.proofs.table.open_number.Statement.{statement}
 use Rattle.checks.proofs.table.open_number.Tie as tie
 

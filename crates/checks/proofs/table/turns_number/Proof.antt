@@ -4,7 +4,7 @@ use borrow.Author.Needs.{needs}
 use lib.ListN.{length-replicate}
 use Rattle.runs.proofs.AcceptedCalls.{opened}
 use Rattle.runs.proofs.NamedBounds.{someBoard}
-use Rattle.checks.proofs.Numbers.{turns-adds, refused-already, decided-by}
+use Rattle.checks.proofs.Adds.{turns-adds, refused-already, decided-by}
 use Rattle.checks.proofs.table.turns_number.Statement.{statement}
 use Rattle.checks.proofs.table.turns_number.Tie as tie
 

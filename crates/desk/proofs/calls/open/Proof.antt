@@ -7,7 +7,7 @@ use mathlib.Core.Logic.{⊎-elim}
 use lib.ListN.{length}
 use borrow.Author.Needs.{needs}
 use Rattle.builds.specs.Catalogue.{Catalogue}
-use Rattle.runs.specs.Refusal.{openRefusal}
+use Rattle.runs.specs.RefusalTable.{openRefusal}
 use Rattle.runs.proofs.AcceptedCalls.{opened}
 use Rattle.runs.proofs.Performed.{opening-accepted, opening-refused}
 use Rattle.desk.proofs.calls.open.Statement.{statement}

@@ -5,11 +5,11 @@ use Rattle.runs.proofs.Performed.{perform-number}
 use Rattle.desk.proofs.reading.example_number.Statement.{statement}
 use Rattle.desk.proofs.reading.example_number.Tie as tie
 
-example-refusal-requires : tie.Need-example-refusal-requires
-example-refusal-requires c κs = search needs
+number-requires : tie.Need-number-requires
+number-requires c κs = search needs
 
 returns : tie.Need-returns
-returns c = c .example-refusal .ensures _ refl ∙ sym (perform-number _ _ _)
+returns c = c .number .ensures _ refl ∙ sym (perform-number _ _ _)
 
 pub example-number-spec : {M : Type 1} → statement M
-example-number-spec = tie.close (tie.spec example-refusal-requires returns)
+example-number-spec = tie.close (tie.spec number-requires returns)

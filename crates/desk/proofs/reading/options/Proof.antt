@@ -1,63 +1,69 @@
--- Refused, nothing is left to say. Accepted, the mask of the feature is read; on a desk that fits it has 16 bits at most, and
--- the code counts them.
+-- Refused, nothing is left to say. AcceptedAsking, the mask of the feature is read, a number of 16 bits, which the code counts; the
+-- seat keeps its record and share.
+use Prim.Native.Nat.{_^_, _<_}
 use mathlib.Core.Path.{_≡_, refl, sym, _∙_}
 use native.Mathlib.Omega.{arith}
 use borrow.Author.Needs.{needs}
-use Rattle.builds.specs.Fault.{member}
 use Rattle.search.specs.Look.{maskOf}
 use Rattle.search.proofs.Bits.{bit-count}
+use Rattle.runs.specs.declared.Asking.the-variants.{Read}
+use Rattle.runs.specs.declared.Reading.the-variants.{Options}
 use Rattle.runs.specs.Room.{seatAt}
-use Rattle.runs.specs.Call.{options}
-use Rattle.runs.specs.Refusal.{refusal}
+use Rattle.runs.specs.Call.{asks}
+use Rattle.runs.specs.RefusalTable.{refusal}
 use Rattle.runs.specs.Perform.{done}
 use Rattle.runs.proofs.Performed.{perform-accepted}
-use Rattle.runs.proofs.AcceptedCalls.{accepted}
+use Rattle.runs.proofs.AcceptedCalls.{AcceptedAsking, accepted}
 use Rattle.runs.proofs.OneSeat.{refused-call}
-use Rattle.runs.proofs.NamedBounds.{FeatureBounds, feature-bounds}
-use Rattle.desk.proofs.Readings.{mask-of-16-bits}
+use Rattle.runs.proofs.WithClinic.{with-own}
 use Rattle.desk.proofs.reading.options.Statement.{statement}
 use Rattle.desk.proofs.reading.options.Tie as tie
 
-options-number-requires : tie.Need-options-number-requires
-options-number-requires c κs = search needs
+number-requires : tie.Need-number-requires
+number-requires c κs = search needs
 
 returns : tie.Need-returns
-returns c = refused-call _ _ _ _ (c .before .options-number .ensures _ refl) (c .if1 .taken)
+returns c = refused-call _ _ _ _ (c .before .number .ensures _ refl) (c .if1 .taken)
 
 -- past the check the call is not refused
 not-refused : (c : tie.Else1) → let a = c .before .before .before .before .before .args in
-    refusal (record { sizes = a .sizes .now; list = a .rules .now }) (options (a .c) (a .i))
+    refusal (record { sizes = a .sizes .now; list = a .rules .now }) (asks (a .c) (Read (Options (a .i))))
     (record { desk = a .desk; board = a .board .now }) ≡ 0
-not-refused c = sym (c .before .options-number .ensures _ refl) ∙ c .if1 .left
+not-refused c = sym (c .before .number .ensures _ refl) ∙ c .if1 .left
 
-bounds : (c : tie.Else1) → let a = c .before .before .before .before .before .args in
-    FeatureBounds (record { sizes = a .sizes .now; list = a .rules .now }) (a .c) (a .i)
-unfolding member
-bounds c = feature-bounds (accepted _ _ _ (not-refused c)) refl refl
+passed : (c : tie.Else1) → let a = c .before .before .before .before .before .args in
+    AcceptedAsking (record { sizes = a .sizes .now; list = a .rules .now }) (a .c) (Read (Options (a .i)))
+    (record { desk = a .desk; board = a .board .now })
+passed c = accepted _ _ _ _ (not-refused c)
 
 mul-mask-of : tie.Need-mul-mask-of
-mul-mask-of c = let b = bounds (c .before) in omega arith
+mul-mask-of c = omega (arith, passed (c .before) .seat-below)
 
 array-copy-out-mask-of : tie.Need-array-copy-out-mask-of
-array-copy-out-mask-of c = bounds (c .before) .seat-below
+array-copy-out-mask-of c = passed (c .before) .seat-below
 
 mask-of-requires : tie.Need-mask-of-requires
-mask-of-requires c κs = let b = bounds (c .before .before) in omega arith
+mask-of-requires c κs = search needs
 
 returns-2 : tie.Need-returns-2
 unfolding done
 returns-2 c =
     let ready = c .before .before .before in
     let a = ready .before .before .before .before .before .args in
-    let none = not-refused ready in
-    let small = mask-of-16-bits _ (a .desk) (accepted _ _ _ none .desk-fits) (bounds ready) in
-    rw (c .mask-of .ensures, ← bit-count (maskOf (seatAt (a .desk) (a .c)) (a .i)) small) (sym (perform-accepted _ _ _ none))
+    let call = passed ready in
+    let small : maskOf (seatAt (a .desk) (a .c)) (a .i) < 2 ^ 16 = rw (c .mask-of .ensures) at (c .mask-of .ok) in
+    rw (
+      c .mask-of .ensures,
+      ← bit-count (maskOf (seatAt (a .desk) (a .c)) (a .i)) small,
+      perform-accepted _ _ _ (not-refused ready),
+      with-own (record { desk = a .desk; board = a .board .now }) (call .checks .board-length) (a .c) (call .seat-below),
+    ) refl
 
 pub options-spec : {M : Type 1} → statement M
 options-spec =
     tie.close
     (tie.spec
-    options-number-requires
+    number-requires
     returns
     mul-mask-of
     array-copy-out-mask-of

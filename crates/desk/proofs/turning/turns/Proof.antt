@@ -4,9 +4,9 @@ use borrow.Author.Needs.{needs}
 use Rattle.builds.specs.Catalogue.{Catalogue}
 use Rattle.runs.specs.Room.{Room}
 use Rattle.runs.specs.Call.{turns}
-use Rattle.runs.specs.Refusal.{refusal}
+use Rattle.runs.specs.RefusalTable.{refusal}
 use Rattle.runs.proofs.Performed.{perform-accepted, perform-refused}
-use Rattle.runs.proofs.AcceptedCalls.{accepted}
+use Rattle.runs.proofs.AcceptedCalls.{checked}
 use Rattle.desk.proofs.turning.turns.Statement.{statement}
 use Rattle.desk.proofs.turning.turns.Tie as tie
 
@@ -37,7 +37,7 @@ no-refusal p =
 make-turns-requires : tie.Need-make-turns-requires
 make-turns-requires c κs =
     let start = c .before .before .before .before .before .before in
-    let call = accepted (catalogue-of start) (turns (start .args .w)) (room-of start) (no-refusal (c .before)) in
+    let call = checked (catalogue-of start) (turns (start .args .w)) (room-of start) (no-refusal (c .before)) .0 in
     ((call .board-length, call .faultless), call .desk-fits)
 
 same-length : tie.Need-same-length

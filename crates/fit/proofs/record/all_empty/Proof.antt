@@ -10,8 +10,9 @@ use borrow.Author.Needs.{needs}
 use borrow.Author.Tests.{eq-eqb, ne-eqb}
 use lib.Dec.{eqb}
 use lib.ListN.{length, getD}
-use Rattle.builds.proofs.PlacedSteps.{getD-within}
-use Rattle.search.specs.Fit.{everyBelow, emptyAt}
+use Rattle.builds.proofs.PlacedWalks.{getD-within}
+use Rattle.builds.specs.Lists.{everyBelow}
+use Rattle.search.specs.RecordFits.{emptyAt}
 use Rattle.search.proofs.EveryBelow.{flag-on, falls, stays}
 use Rattle.fit.proofs.record.all_empty.Statement.{statement}
 use Rattle.fit.proofs.record.all_empty.Tie as tie

@@ -8,8 +8,9 @@ use native.Mathlib.Omega.{arith}
 use borrow.Author.Needs.{needs}
 use borrow.Author.Tests.{eq-eqb, ne-eqb, lt-ltb, le-ltb}
 use lib.ListN.{length, getD}
-use Rattle.builds.proofs.PlacedSteps.{getD-within}
-use Rattle.search.specs.Fit.{everyBelow, choiceFits}
+use Rattle.builds.proofs.PlacedWalks.{getD-within}
+use Rattle.builds.specs.Lists.{everyBelow}
+use Rattle.search.specs.RecordFits.{choiceFits}
 use Rattle.search.proofs.EveryBelow.{one-more, one-fails, all-passed}
 use Rattle.fit.proofs.record.choices_fit.Statement.{statement}
 use Rattle.fit.proofs.record.choices_fit.Tie as tie

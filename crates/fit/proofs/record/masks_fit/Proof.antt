@@ -13,7 +13,8 @@ use lib.ListN.{length, getD, List·getD-eq-default}
 use lib.Pow.{pow-lt}
 use Rattle.builds.specs.Fault.{sizesFault}
 use Rattle.builds.proofs.Faultless.{sizesFault-at}
-use Rattle.search.specs.Fit.{everyBelow, maskFits}
+use Rattle.builds.specs.Lists.{everyBelow}
+use Rattle.search.specs.RecordFits.{maskFits}
 use Rattle.search.proofs.EveryBelow.{one-more, one-fails, all-passed}
 use Rattle.fit.proofs.record.masks_fit.Statement.{statement}
 use Rattle.fit.proofs.record.masks_fit.Tie as tie

@@ -3,7 +3,8 @@ use mathlib.Core.Path.{_≡_, sym, _∙_}
 use mathlib.Core.Bool.{true, false}
 use borrow.Author.Needs.{needs}
 use borrow.Author.Tests.{not-true, not-false}
-use Rattle.search.specs.Fit.{everyBelow, choiceFits, maskFits}
+use Rattle.builds.specs.Lists.{everyBelow}
+use Rattle.search.specs.RecordFits.{choiceFits, maskFits}
 use Rattle.fit.proofs.record.open_fits.Statement.{statement}
 use Rattle.fit.proofs.record.open_fits.Tie as tie
 

@@ -8,10 +8,10 @@ use borrow.Author.Needs.{needs}
 use borrow.Author.Tests.{ltb-true, lt-ltb, le-ltb}
 use lib.Dec.{ltb}
 use lib.ListN.{length, getD}
-use Rattle.builds.proofs.PlacedSteps.{getD-within}
-use Rattle.search.specs.Fit.{everyBelow}
+use Rattle.builds.proofs.PlacedWalks.{getD-within}
+use Rattle.builds.specs.Lists.{everyBelow}
 use Rattle.fit.specs.inner.Trial.{placedFits}
-use Rattle.search.proofs.Fits.{every-below, below-every}
+use Rattle.search.proofs.FitsInWords.{every-below, below-every}
 use Rattle.search.proofs.EveryBelow.{one-more, one-fails, all-passed}
 use Rattle.fit.proofs.record.placed_fit.Statement.{statement}
 use Rattle.fit.proofs.record.placed_fit.Tie as tie

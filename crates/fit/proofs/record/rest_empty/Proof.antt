@@ -8,8 +8,8 @@ use native.Mathlib.Omega.{arith}
 use borrow.Author.Needs.{needs}
 use borrow.Author.Tests.{lt-ltb, le-ltb, eq-eqb, ne-eqb}
 use lib.ListN.{length, getD}
-use Rattle.builds.proofs.PlacedSteps.{getD-within}
-use Rattle.search.specs.Fit.{everyBelow}
+use Rattle.builds.proofs.PlacedWalks.{getD-within}
+use Rattle.builds.specs.Lists.{everyBelow}
 use Rattle.fit.specs.inner.Trial.{restFits}
 use Rattle.search.proofs.EveryBelow.{flag-on, falls, stays}
 use Rattle.fit.proofs.record.rest_empty.Statement.{statement}

@@ -13,8 +13,9 @@ use Rattle.builds.proofs.Faultless.{fault-zero}
 use Rattle.search.specs.declared.Seat.{Seat}
 use Rattle.search.specs.declared.State.{State}
 use Rattle.search.specs.declared.State.the-variants.{Closed, Ready, AtWork}
-use Rattle.search.specs.Fit.{everyBelow, choiceFits, maskFits, entryFits, emptyAt, depthOf, stateFits, seatFits}
-use Rattle.search.proofs.Fits.{every-below, below-every}
+use Rattle.builds.specs.Lists.{everyBelow}
+use Rattle.search.specs.RecordFits.{choiceFits, maskFits, entryFits, emptyAt, depthOf, stateFits, seatFits}
+use Rattle.search.proofs.FitsInWords.{every-below, below-every}
 use Rattle.fit.proofs.record.seat_fits.Statement.{statement}
 use Rattle.fit.proofs.record.seat_fits.Tie as tie
 

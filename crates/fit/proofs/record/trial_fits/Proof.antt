@@ -8,7 +8,8 @@ use borrow.Author.Needs.{needs}
 use borrow.Author.Tests.{not-true, not-false}
 use lib.Dec.{ltb, eqb}
 use lib.ListN.{getD}
-use Rattle.search.specs.Fit.{everyBelow, entryFits}
+use Rattle.builds.specs.Lists.{everyBelow}
+use Rattle.search.specs.RecordFits.{entryFits}
 use Rattle.fit.specs.inner.Trial.{restFits, placedFits}
 use Rattle.fit.proofs.record.trial_fits.Statement.{statement}
 use Rattle.fit.proofs.record.trial_fits.Tie as tie

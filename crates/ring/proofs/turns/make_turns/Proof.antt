@@ -13,16 +13,17 @@ use lib.ListN.{length, set, length-replicate}
 use Rattle.builds.specs.Catalogue.{Catalogue, catalogueOf}
 use Rattle.builds.proofs.Faultless.{fault-zero, fault-whole}
 use Rattle.search.specs.declared.Seat.{Seat}
-use Rattle.search.specs.Clinic.{Clinic, clinicOf, put}
+use Rattle.builds.specs.Lists.{put}
+use Rattle.search.specs.Clinic.{Clinic, clinicOf}
 use Rattle.search.specs.Step.{step}
 use Rattle.ring.specs.inner.Marks.{foundOf, trueFrom}
 use Rattle.ring.specs.inner.Marks.{marksOf}
 use Rattle.runs.specs.Room.{Room, roomOf, clinicAt, withClinic}
 use Rattle.runs.specs.Turn.{isAtWork, turnFor}
-use Rattle.runs.proofs.ArrayLengths.{eight-seats, sixteen-each}
+use Rattle.runs.proofs.DeskLengths.{eight-seats, sixteen-each}
 use Rattle.runs.proofs.LentShare.{lent-length, lent-is, back-is}
 use Rattle.runs.proofs.Sound.{fits-sound}
-use Rattle.runs.proofs.MadeTurns.{none-made}
+use Rattle.runs.proofs.TurnByTurn.{none-made}
 use Rattle.ring.proofs.Turning.{Turning, found-below, still-marked, turn-made, turns-done}
 use Rattle.ring.proofs.turns.make_turns.Statement.{statement}
 use Rattle.ring.proofs.turns.make_turns.Tie as tie

@@ -2,7 +2,7 @@
 use Prim.Native.Nat.{_+_}
 use native.Mathlib.Omega.{arith}
 use borrow.Rule.Slice.PartMut.{mid-len, post-is}
-use Rattle.search.specs.Clinic.{put}
+use Rattle.builds.specs.Lists.{put}
 use borrow.Author.Needs.{needs}
 use Rattle.seat.proofs.share.write_example.Statement.{statement}
 use Rattle.seat.proofs.share.write_example.Tie as tie

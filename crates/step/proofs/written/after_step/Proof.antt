@@ -15,8 +15,8 @@ use Rattle.search.specs.Clinic.{clinicOf, withExample}
 use Rattle.search.specs.Candidates.{chosenOtherwise}
 use Rattle.search.specs.Step.{pairEnded, afterTried, stepAt, tried}
 use Rattle.search.specs.inner.Placed.{keptBefore}
-use Rattle.step.specs.inner.Ways.{triedOf}
-use Rattle.search.proofs.Fits.{PlaceFits, place-fits}
+use Rattle.step.specs.inner.StepContracts.{triedOf}
+use Rattle.search.proofs.FitsInWords.{PlaceFits, place-fits}
 use Rattle.search.proofs.PlaceBounds.{few-features, first-has-option, feature-below-16, option-below-16}
 use Rattle.step.proofs.written.after_step.Statement.{statement}
 use Rattle.step.proofs.written.after_step.Tie as tie

@@ -2,7 +2,7 @@
 use borrow.Author.Needs.{needs}
 use borrow.Author.Tests.{eq-eqb, ne-eqb}
 use lib.ListN.{getD}
-use Rattle.builds.proofs.PlacedSteps.{getD-within}
+use Rattle.builds.proofs.PlacedWalks.{getD-within}
 use Rattle.step.proofs.written.chosen_otherwise.Statement.{statement}
 use Rattle.step.proofs.written.chosen_otherwise.Tie as tie
 

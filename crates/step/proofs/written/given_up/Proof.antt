@@ -6,13 +6,13 @@ use mathlib.Core.Option.{none}
 use native.Mathlib.Omega.{arith}
 use borrow.Author.Needs.{needs}
 use lib.ListN.{length, getD, set}
-use Rattle.builds.proofs.PlacedSteps.{getD-within}
+use Rattle.builds.proofs.PlacedWalks.{getD-within}
 use Rattle.search.specs.Candidates.{nextCandidate}
 use Rattle.search.specs.Step.{givenUp}
 use Rattle.seat.specs.inner.Next.{nextOf}
 use Rattle.search.specs.inner.Placed.{keptBefore}
 use Rattle.search.proofs.GoingBack.{goes-on, ends, goes-back}
-use Rattle.search.proofs.Kept.{kept-before, kept-less}
+use Rattle.search.proofs.KeptBefore.{kept-before, kept-less}
 use Rattle.step.proofs.written.given_up.Statement.{statement}
 use Rattle.step.proofs.written.given_up.Tie as tie
 

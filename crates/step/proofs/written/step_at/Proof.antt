@@ -6,8 +6,8 @@ use native.Mathlib.Omega.{arith}
 use borrow.Author.Needs.{needs}
 use lib.ListN.{length, set}
 use Rattle.builds.specs.Catalogue.{Catalogue, catalogueOf}
-use Rattle.search.proofs.Fits.{PlaceFits, fits-place, SeatFits, seat-fits}
-use Rattle.search.proofs.Kept.{kept-under}
+use Rattle.search.proofs.FitsInWords.{PlaceFits, fits-place, SeatFits, seat-fits}
+use Rattle.search.proofs.KeptBefore.{kept-under}
 use Rattle.search.proofs.PlaceBounds.{feature-below-16, option-below-16, depth-below-16, place-at-work, nothing-from-depth, trial-bytes, tried-there, placed-so}
 use Rattle.step.proofs.written.step_at.Statement.{statement}
 use Rattle.step.proofs.written.step_at.Tie as tie

@@ -1,13 +1,13 @@
--- The entries before the index are those of what is kept, each made by two masks (`Kept.entry-made`).
+-- The entries before the index are those of what is kept, each made by two masks (`KeptBefore.entry-made`).
 use Prim.Native.Nat.{_+_, _-_, _≤_}
 use mathlib.Core.Path.{_≡_, refl, sym, _∙_}
 use native.Mathlib.Omega.{arith}
 use borrow.Author.Needs.{needs}
 use lib.ListN.{length, getD, take, set, length-set}
-use Rattle.builds.proofs.PlacedSteps.{getD-within}
+use Rattle.builds.proofs.PlacedWalks.{getD-within}
 use Rattle.search.specs.inner.Placed.{keptBefore}
 use Rattle.search.proofs.Filled.{one-filled, all-filled}
-use Rattle.search.proofs.Kept.{kept-length, entry-made}
+use Rattle.search.proofs.KeptBefore.{kept-length, entry-made}
 use Rattle.step.proofs.written.trial_after.Statement.{statement}
 use Rattle.step.proofs.written.trial_after.Tie as tie
 

@@ -15,8 +15,8 @@ use Rattle.builds.proofs.Faultless.{fault-whole}
 use Rattle.builds.proofs.Format.{fault-below}
 use Rattle.search.specs.Step.{tried}
 use Rattle.search.specs.inner.Placed.{keptBefore}
-use Rattle.search.proofs.Fits.{PlaceFits, place-fits}
-use Rattle.search.proofs.Kept.{kept-whole, placed-again}
+use Rattle.search.proofs.FitsInWords.{PlaceFits, place-fits}
+use Rattle.search.proofs.KeptBefore.{kept-whole, placed-again}
 use Rattle.search.proofs.PlaceBounds.{few-features, size-within, depth-below-16}
 use Rattle.step.proofs.written.try_next.Statement.{statement}
 use Rattle.step.proofs.written.try_next.Tie as tie

@@ -1,0 +1,49 @@
+-- Number 20, as far as it speaks of one seat: when a record fits the catalogue.
+use Prim.Native.Nat.{ℕ, _^_}
+use mathlib.Core.Bool.{Bool, true, cond, _&&_, _||_}
+use mathlib.Core.List.{List}
+use lib.ListN.{length, getD}
+use lib.Dec.{ltb, eqb}
+use Rattle.builds.specs.Lists.{everyBelow}
+use Rattle.builds.specs.Catalogue.{Catalogue, sizeOf}
+use Rattle.search.specs.declared.Seat.{Seat}
+use Rattle.search.specs.declared.Place.{Place}
+use Rattle.search.specs.declared.State.{State}
+use Rattle.search.specs.declared.State.the-variants.{Closed, Ready, AtWork}
+
+-- A missing feature's size is read as 0, so that it has no option.
+
+-- a choice is 255 or an option of its feature
+abbrev pub choiceFits : List ℕ → List ℕ → ℕ → Bool
+choiceFits sizes choices f = eqb (getD choices f 255) 255 || ltb (getD choices f 255) (getD sizes f 0)
+
+-- a mask has no bit but for an option of its feature
+abbrev pub maskFits : List ℕ → List ℕ → ℕ → Bool
+maskFits sizes masks f = ltb (getD masks f 0) (2 ^ getD sizes f 0)
+
+-- a trial entry before the depth is an option of its feature, any other is 255
+abbrev pub entryFits : List ℕ → ℕ → List ℕ → ℕ → Bool
+entryFits sizes depth trial f = cond (ltb f depth) (ltb (getD trial f 255) (getD sizes f 0)) (eqb (getD trial f 255) 255)
+
+-- a closed seat has neither a choice nor a mask bit
+abbrev pub emptyAt : List ℕ → List ℕ → ℕ → Bool
+emptyAt choices masks f = eqb (getD choices f 255) 255 && eqb (getD masks f 0) 0
+
+abbrev pub placeFits : Catalogue → Place → Bool
+placeFits catalogue p = ltb (p .feature) (length (catalogue .sizes)) && ltb (p .depth) (length (catalogue .sizes))
+    && ltb (p .option) (sizeOf catalogue (p .feature)) && ltb (p .next) (sizeOf catalogue (p .depth))
+
+abbrev pub depthOf : State → ℕ
+depthOf Closed = 0
+depthOf Ready = 0
+depthOf (AtWork p) = p .depth
+
+abbrev pub stateFits : Catalogue → Seat → State → Bool
+stateFits catalogue seat Closed = everyBelow 16 (emptyAt (seat .choices) (seat .masks))
+stateFits catalogue seat Ready = true
+stateFits catalogue seat (AtWork p) = placeFits catalogue p
+
+unfoldable pub seatFits : Catalogue → Seat → Bool
+seatFits catalogue seat = everyBelow 16 (choiceFits (catalogue .sizes) (seat .choices))
+    && everyBelow 16 (maskFits (catalogue .sizes) (seat .masks)) && stateFits catalogue seat (seat .state)
+    && everyBelow 16 (entryFits (catalogue .sizes) (depthOf (seat .state)) (seat .trial))

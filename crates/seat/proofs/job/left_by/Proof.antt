@@ -1,0 +1,95 @@
+-- Arm by arm what the definition says of the asking.
+use Prim.Native.Nat.{_<_}
+use mathlib.Core.Path.{refl}
+use lib.Dec.{lit<}
+use borrow.Author.Needs.{needs}
+use Rattle.seat.proofs.job.left_by.Statement.{statement}
+use Rattle.seat.proofs.job.left_by.Tie as tie
+
+enum-told : tie.Need-enum-told
+enum-told c = search needs
+
+post-requires : tie.Need-post-requires
+post-requires c κs = search needs
+
+enum-told-2 : tie.Need-enum-told-2
+enum-told-2 c = search needs
+
+close-requires : tie.Need-close-requires
+close-requires c κs = search needs
+
+enum-known-asking : tie.Need-enum-known-asking
+enum-known-asking c = search needs
+
+-- the numbers of a choice, and of a choice dropped, have a place in the record
+chosen : (c : tie.After-asking) → (c .asking .given .0 .0 < 16) × (c .asking .given .0 .1 .0 < 256)
+chosen c = rw (c .asking .given .1) at (c .before .before .before .before .pre .2)
+
+dropped : (c : tie.After-asking2) → c .asking2 .given .0 .0 < 16
+dropped c = rw (c .asking2 .given .1) at (c .before .before .before .before .pre .2)
+
+post-with-requires : tie.Need-post-with-requires
+post-with-requires c κs =
+    let start = c .before .before .before .before .before .before in
+    (chosen (c .before .before) .0, chosen (c .before .before) .1, start .pre .0, start .pre .1)
+
+enum-known-asking-2 : tie.Need-enum-known-asking-2
+enum-known-asking-2 c = search needs
+
+post-with-requires-2 : tie.Need-post-with-requires-2
+post-with-requires-2 c κs =
+    let start = c .before .before .before .before .before .before in
+    (dropped (c .before .before), lit< tt, start .pre .0, start .pre .1)
+
+enum-told-3 : tie.Need-enum-told-3
+enum-told-3 c = search needs
+
+same-length : tie.Need-same-length
+same-length c = search needs
+
+returns : tie.Need-returns
+returns c = rw (c .before .before .before .before .enum-told .given .1) (c .before .before .post .ensures)
+
+same-length-2 : tie.Need-same-length-2
+same-length-2 c = search needs
+
+returns-2 : tie.Need-returns-2
+returns-2 c = rw (c .before .before .before .before .enum-told2 .given .1) (c .before .before .close .ensures)
+
+same-length-3 : tie.Need-same-length-3
+same-length-3 c = search needs
+
+returns-3 : tie.Need-returns-3
+returns-3 c = rw (c .before .before .before .before .before .asking .given .1) (c .before .before .post-with .ensures)
+
+same-length-4 : tie.Need-same-length-4
+same-length-4 c = search needs
+
+returns-4 : tie.Need-returns-4
+returns-4 c = rw (c .before .before .before .before .before .asking2 .given .1) (c .before .before .post-with2 .ensures)
+
+returns-5 : tie.Need-returns-5
+returns-5 c = rw (c .enum-told3 .given .1) refl
+
+pub left-by-spec : {M : Type 1} → statement M
+left-by-spec =
+    tie.close
+    (tie.spec
+    enum-told
+    post-requires
+    enum-told-2
+    close-requires
+    enum-known-asking
+    post-with-requires
+    enum-known-asking-2
+    post-with-requires-2
+    enum-told-3
+    same-length
+    returns
+    same-length-2
+    returns-2
+    same-length-3
+    returns-3
+    same-length-4
+    returns-4
+    returns-5)

@@ -1,0 +1,2 @@
+pub mod OnTheTrolley
+pub mod RunsOnTheTrolley
