@@ -4,9 +4,9 @@ use mathlib.Core.Path.{_≡_, refl, sym, subst}
 use mathlib.Core.Logic.{_↔_, ⊎-elim, ∥∥₁-elim}
 use mathlib.Core.Bool.{Bool, true, false, cond}
 use mathlib.Core.List.{List, [], _∷_, _++_, map, List·Mem, List·Memᴰ, List·Memᴰ·head, List·Memᴰ·tail, List·Memᴰ·cases-cons, List·Memᴰ·not-nil, mem-cons-self, mem-cons-of-mem}
-use Rattle.builds.specs.Lists.{Every, EveryTwo}
+use Rattle.builds.specs.Lists.{Every}
 use Rattle.builds.specs.ListedBuilds.{keep}
-use Rattle.builds.proofs.Every.{every-head, every-tail, every-weaken}
+use Rattle.builds.proofs.Every.{EveryTwo, every-head, every-tail, every-weaken}
 
 module _ {A : Type 0} {P : A → Type 0} where
   pub every-entry : {x : A} {xs : List A} → Every P xs → List·Memᴰ x xs → P x

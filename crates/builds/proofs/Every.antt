@@ -2,10 +2,15 @@
 -- it; two lists that are taken together have one length.
 use Prim.Native.Nat.{ℕ, zero, suc, _<_}
 use mathlib.Core.Path.{_≡_, refl, ap}
-use mathlib.Core.List.{List, _∷_, Forall₂, Forall₂·nil, Forall₂·cons}
+use mathlib.Core.List.{List, [], _∷_, Forall₂, Forall₂·nil, Forall₂·cons}
 use native.Mathlib.Omega.{arith}
 use lib.ListN.{length, getD}
 use Rattle.builds.specs.Lists.{Every}
+
+-- what holds of every two entries of a list
+pub data EveryTwo {A : Type 0} (P : A → A → Type 0) : List A → Type 0 where
+  none : EveryTwo P []
+  also : {x : A} {xs : List A} → Every (P x) xs → EveryTwo P xs → EveryTwo P (x ∷ xs)
 
 module _ {A : Type 0} {P : A → Type 0} where
   pub every-at : {xs : List A} → Every P xs → (d : A) (i : ℕ) → i < length xs → P (getD xs i d)

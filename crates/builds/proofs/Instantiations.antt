@@ -6,11 +6,12 @@ use mathlib.Core.Logic.{_↔_, _⊎_, ⊎-elim}
 use mathlib.Core.List.{List, [], _∷_, map, List·Memᴰ, List·Memᴰ·head, List·Memᴰ·tail, List·Memᴰ·cases-cons, List·Memᴰ·not-nil, List·Memᴰ·eq-of-singleton, List·Memᴰ·append-cases, Memᴰ·append-left, Memᴰ·append-right, Memᴰ·map, Memᴰ·cast}
 use native.Mathlib.Omega.{arith}
 use lib.ListN.{length, getD}
-use Rattle.builds.specs.Lists.{Every, EveryTwo}
+use Rattle.builds.specs.Lists.{Every}
 use Rattle.builds.specs.Rule.{optionAt}
 use Rattle.builds.specs.Build.{Before}
 use Rattle.builds.specs.Catalogue.{optionsOf}
 use Rattle.builds.specs.ListedBuilds.{inFront, instantiations}
+use Rattle.builds.proofs.Every.{EveryTwo}
 use Rattle.builds.proofs.Options.{Rising, options-rising, options-below}
 use Rattle.builds.proofs.Entries.{every-of-all, every-joined, every-map, two-joined, two-map}
 

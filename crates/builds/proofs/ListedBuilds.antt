@@ -10,11 +10,11 @@ use native.Mathlib.Omega.{arith}
 use lib.ListN.{length, getD}
 use lib.Dec.{eqb}
 use borrow.Author.Tests.{eqb-true, eqb-false, eq-eqb}
-use Rattle.builds.specs.Lists.{EveryTwo}
 use Rattle.builds.specs.Rule.{Rule, optionAt, satisfiesAll}
 use Rattle.builds.specs.Catalogue.{Catalogue, rulesOf}
 use Rattle.builds.specs.Build.{Before, IsBuild, BuildWith}
 use Rattle.builds.specs.ListedBuilds.{instantiations, keepsChoices, builds, buildsWith}
+use Rattle.builds.proofs.Every.{EveryTwo}
 use Rattle.builds.proofs.RulesByFeature.{all-every}
 use Rattle.builds.proofs.Entries.{every-entry, kept-are, two-kept}
 use Rattle.builds.proofs.Dictionary.{FirstIs}

@@ -5,9 +5,9 @@ use mathlib.Core.Logic.{_↔_, ⊎-elim}
 use mathlib.Core.List.{List, List·Memᴰ, List·Memᴰ·head, List·Memᴰ·tail, List·Memᴰ·cases-cons, List·Memᴰ·not-nil}
 use native.Mathlib.Nat.{eq-or-lt-of-le}
 use native.Mathlib.Omega.{arith}
-use Rattle.builds.specs.Lists.{Every, EveryTwo, countFrom}
+use Rattle.builds.specs.Lists.{Every, countFrom}
 use Rattle.builds.specs.Catalogue.{optionsOf}
-use Rattle.builds.proofs.Every.{every-weaken}
+use Rattle.builds.proofs.Every.{EveryTwo, every-weaken}
 
 abbrev pub Rising : List ℕ → Type 0
 Rising = EveryTwo (λ (o p : ℕ). o < p)

@@ -10,11 +10,6 @@ pub data Every {A : Type 0} (P : A → Type 0) : List A → Type 0 where
   none : Every P []
   also : {x : A} {xs : List A} → P x → Every P xs → Every P (x ∷ xs)
 
--- what holds of every two entries of a list; cited by laws alone
-pub data EveryTwo {A : Type 0} (P : A → A → Type 0) : List A → Type 0 where
-  none : EveryTwo P []
-  also : {x : A} {xs : List A} → Every (P x) xs → EveryTwo P xs → EveryTwo P (x ∷ xs)
-
 -- a test of every number below a count
 unfoldable pub everyBelow : ℕ → (ℕ → Bool) → Bool
 everyBelow zero test = true

@@ -1,12 +1,12 @@
 // The table of refusal numbers, in its order. Of the board the checks ask the length alone.
-use runs::Asking;
-use runs::Desk;
-use runs::Reading;
-use search::Seat;
 use look::has_choice;
 use look::is_at_work;
 use look::is_closed;
 use look::is_left;
+use runs::Asking;
+use runs::Desk;
+use runs::Reading;
+use search::Seat;
 ghost use mathlib.Core.Path.{_≡_};
 ghost use mathlib.Core.List.{List};
 ghost use Prim.Native.Nat.{ℕ};

@@ -1,6 +1,6 @@
 // Which seats are at work, and which of them is served.
-use search::Seat;
 use look::is_at_work;
+use search::Seat;
 ghost use mathlib.Core.Path.{_≡_};
 ghost use mathlib.Core.List.{map};
 ghost use Prim.Native.Nat.{_<_};

@@ -4,8 +4,8 @@ mod commands;
 mod digest;
 mod fields;
 mod list;
-mod showing;
 mod setup;
+mod showing;
 
 pub use commands::obey;
 use desk::Desk;

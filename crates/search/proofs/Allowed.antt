@@ -8,8 +8,9 @@ use mathlib.Core.List.{List, [], _∷_, List·Memᴰ, List·Memᴰ·head, List·
 use lib.ListN.{getD}
 use lib.Dec.{eqb}
 use borrow.Author.Tests.{eqb-true, eqb-false}
-use Rattle.builds.specs.Lists.{Every, EveryTwo}
+use Rattle.builds.specs.Lists.{Every}
 use Rattle.builds.specs.Catalogue.{optionsOf}
+use Rattle.builds.proofs.Every.{EveryTwo}
 use Rattle.builds.proofs.Options.{Rising, options-rising, options-below}
 use Rattle.search.specs.Candidates.{candidates, setAside}
 use Rattle.search.proofs.SetAside.{none-there, others-stay}

@@ -10,8 +10,9 @@ use mathlib.Core.List.{List, [], _∷_, List·Memᴰ, List·Memᴰ·head, List·
 use mathlib.Core.Option.{Option, none, some}
 use lib.ListN.{set}
 use lib.Seq.{sets}
-use Rattle.builds.specs.Lists.{Every, EveryTwo}
+use Rattle.builds.specs.Lists.{Every}
 use Rattle.builds.specs.Build.{Before}
+use Rattle.builds.proofs.Every.{EveryTwo}
 use Rattle.builds.proofs.Options.{Rising}
 use Rattle.builds.proofs.Entries.{every-entry}
 use Rattle.search.specs.Count.{Search, nothingTried, oneStep, orLater, andThen, searchEach, searchFrom}

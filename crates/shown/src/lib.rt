@@ -1,9 +1,9 @@
 // What the console shows, short of the desk: help, the words of accepted calls and of refusals, a seat's record, a share of
 // the board, and the number that tells two of them apart.
 mod acceptance;
+mod clinic;
 pub mod digest;
 pub mod help;
-mod clinic;
 mod refusal;
 
 pub use acceptance::accepted;
