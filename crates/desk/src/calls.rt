@@ -106,7 +106,7 @@ fn ask(
     let from = c * 4096;
     let to = from + 4096;
     let seats = desk.seats;
-    let seat = seat::left_by(asking, seats[c], &mut board[from..to], sizes);
+    let seat = seat::clinic_after(asking, seats[c], &mut board[from..to], sizes);
     Changed {
         number: 0,
         desk: with_seat(desk, c, seat),

@@ -25,7 +25,7 @@ use Rattle.runs.specs.Room.{Room, seatAt, clinicAt, withClinic}
 use Rattle.runs.specs.Call.{Call, asks, turns}
 use Rattle.runs.specs.Turn.{seatAfter, served, turnFor, turn, afterTurns}
 use Rattle.runs.specs.RefusalTable.{askedRows, refusal}
-use Rattle.runs.specs.Perform.{Kind, posts, leaves, reads, kindOf, byKind, leftBy, done, perform, opening}
+use Rattle.runs.specs.Perform.{Kind, posts, leaves, reads, kindOf, byKind, clinicAfter, done, perform, opening}
 use Rattle.runs.specs.Run.{afterCalls}
 use Rattle.runs.proofs.WithClinic.{fresh-clinic, with-same, with-other}
 use Rattle.runs.proofs.Served.{served-found}
@@ -107,7 +107,7 @@ module _ (catalogue : Catalogue) (fault : faultOf catalogue ≡ 0) (P : Clinic �
         let l : c < 8 = call .seat-below in
         let fits = sound .clinics-fit c l in
         let kind : Kind = kindOf asking (seatAt (room .desk) c .choices) in
-        with-every room sound before c (room .desk .next) l (leftBy (catalogue .sizes) asking (clinicAt room c))
+        with-every room sound before c (room .desk .next) l (clinicAfter (catalogue .sizes) asking (clinicAt room c))
         (kind-bytes (catalogue .sizes) kind (clinicAt room c) (fits .all-bytes))
         (asked (clinicAt room c) fits (before c l) asking (call .rows) kind refl)
     done-every (turns w) h = turns-every w room sound before

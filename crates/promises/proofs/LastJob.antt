@@ -23,6 +23,7 @@ use Rattle.runs.proofs.ChecksPassed.{checks-passed}
 use Rattle.runs.proofs.Performed.{perform-number}
 use Rattle.promises.specs.Moment.{moment, Opened, seatIn}
 use Rattle.promises.specs.LastJob.{LastJob}
+use Rattle.promises.proofs.Frame.{sound-whole}
 use Rattle.promises.proofs.SoundMoments.{opened-faultless, sound-moment}
 use Rattle.promises.proofs.RefusedOpening.{every-call-refused, every-seat-closed}
 use Rattle.promises.proofs.Reached.{ended-at}
@@ -73,6 +74,7 @@ module _ (catalogue : Catalogue) (board : List ℕ) (opened : Opened catalogue b
 
 pub last-job : LastJob
 last-job = record {
+  whole = λ catalogue board opened calls. sound-whole (sound-moment catalogue board opened calls);
   numbers = λ catalogue board calls call. record {
     never-20 = λ opened. never-20 catalogue board opened calls call;
     refused-throughout = λ not-opened. every-call-refused catalogue board not-opened calls call;

@@ -12,15 +12,15 @@ use Rattle.search.specs.Clinic.{nothing16, noneLeft, emptyShare}
 use Rattle.runs.specs.Room.{Room, shareAt}
 use Rattle.runs.specs.Call.{Call}
 use Rattle.promises.specs.Moment.{moment, Opened, seatIn}
-use Rattle.promises.specs.OptionsLeft.{shown}
+use Rattle.promises.specs.OptionsLeft.{isShown}
 
 pub record InARun (catalogue : Catalogue) (room : Room) (c : ℕ) : Type 0 where
   -- in a ready seat a feature that has a choice shows that option alone as left
   pub choice-alone : seatIn room c .state ≡ Ready → (i x : ℕ) → i < length (catalogue .sizes)
-      → getD (seatIn room c .choices) i 255 ≡ x → (x ≡ 255 → ⊥) → (a : ℕ) → (shown catalogue room c i a ≡ true) ↔ (a ≡ x)
+      → getD (seatIn room c .choices) i 255 ≡ x → (x ≡ 255 → ⊥) → (a : ℕ) → (isShown catalogue room c i a ≡ true) ↔ (a ≡ x)
   -- if the catalogue has a build, every ready seat shows at least one option for each feature
   pub some-left : (build : List ℕ) → IsBuild catalogue nothing16 build → seatIn room c .state ≡ Ready
-      → (i : ℕ) → i < length (catalogue .sizes) → (a : ℕ) × (shown catalogue room c i a ≡ true)
+      → (i : ℕ) → i < length (catalogue .sizes) → (a : ℕ) × (isShown catalogue room c i a ≡ true)
   -- if it has none, no option anywhere, whether the seat is ready or not: neither in the masks nor on the board
   pub none-left : ((build : List ℕ) → IsBuild catalogue nothing16 build → ⊥)
       → (seatIn room c .masks ≡ noneLeft) × (shareAt (room .board) c ≡ emptyShare)

@@ -21,8 +21,8 @@ use Rattle.runs.specs.Perform.{perform, optionsAnswer, exampleAnswer}
 use Rattle.promises.specs.Moment.{moment, seatIn}
 
 -- seat c is shown option a of feature i as left: the bit of the mask that the options call answers
-abbrev pub shown : Catalogue → Room → ℕ → ℕ → ℕ → Bool
-shown catalogue room c i a = hasBit (perform catalogue (asks c (Read (Options i))) room .answer .mask) a
+abbrev pub isShown : Catalogue → Room → ℕ → ℕ → ℕ → Bool
+isShown catalogue room c i a = hasBit (perform catalogue (asks c (Read (Options i))) room .answer .mask) a
 
 -- what seat c is shown of feature i, through the answers of the options and example calls
 pub record Shown (catalogue : Catalogue) (room : Room) (c i : ℕ) : Type 0 where
@@ -46,4 +46,4 @@ OptionsLeft = (catalogue : Catalogue) (board : List ℕ) (calls : List Call) (c 
 abbrev pub GloballyConsistent : Type 0
 GloballyConsistent = (catalogue : Catalogue) (board : List ℕ) (calls : List Call) (c : ℕ) → c < 8
     → seatIn (moment catalogue board calls) c .state ≡ Ready
-    → GicClosure catalogue (seatIn (moment catalogue board calls) c .choices) (shown catalogue (moment catalogue board calls) c)
+    → GicClosure catalogue (seatIn (moment catalogue board calls) c .choices) (isShown catalogue (moment catalogue board calls) c)

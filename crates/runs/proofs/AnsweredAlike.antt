@@ -10,7 +10,7 @@ use Rattle.runs.specs.declared.Asking.{Asking}
 use Rattle.runs.specs.Room.{Room, clinicAt}
 use Rattle.runs.specs.Call.{asks, Answer, refused}
 use Rattle.runs.specs.RefusalTable.{refusal}
-use Rattle.runs.specs.Perform.{Outcome, kindOf, leftBy, answerBy, done, perform}
+use Rattle.runs.specs.Perform.{Outcome, kindOf, clinicAfter, answerBy, done, perform}
 use Rattle.runs.proofs.Sound.{Sound}
 use Rattle.runs.proofs.Performed.{perform-accepted, perform-refused}
 use Rattle.runs.proofs.ChecksPassed.{refused-alike}
@@ -43,7 +43,7 @@ module _ (catalogue : Catalogue) (fault : faultOf catalogue ≡ 0) (c : ℕ) (as
                   ∙ ap (λ (clinic : Clinic). answerBy (kindOf asking (clinic .seat .choices)) clinic) same
                   ∙ sym (accepted-answer room₂ e₂),
               asking-leaves catalogue room₁ (sound₁ .eight) (sound₁ .board-length) c asking e₁
-                  ∙ ap (leftBy (catalogue .sizes) asking) same
+                  ∙ ap (clinicAfter (catalogue .sizes) asking) same
                   ∙ sym (asking-leaves catalogue room₂ (sound₂ .eight) (sound₂ .board-length) c asking e₂),
             )
         go (suc r) e₂ =

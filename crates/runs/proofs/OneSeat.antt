@@ -13,7 +13,7 @@ use Rattle.runs.specs.declared.Asking.{Asking}
 use Rattle.runs.specs.Room.{Room, seatAt, clinicAt, withClinic}
 use Rattle.runs.specs.Call.{Call, asks, refused, plain}
 use Rattle.runs.specs.RefusalTable.{refusal}
-use Rattle.runs.specs.Perform.{kindOf, leftBy, answerBy, done, perform}
+use Rattle.runs.specs.Perform.{kindOf, clinicAfter, answerBy, done, perform}
 use Rattle.runs.proofs.LentShare.{shareLent, shareBack, lent-is, lent-length, back-is}
 use Rattle.runs.proofs.AcceptedCalls.{accepted}
 use Rattle.runs.proofs.Performed.{perform-accepted, perform-refused}
@@ -33,7 +33,7 @@ module _ (catalogue : Catalogue) (c : ℕ) (asking : Asking) (room : Room) (zero
   -- what the asking leaves, of the share as it is lent
   pub one-seat : (seat : Seat) (share : List ℕ) (desk : Desk)
       → answerBy (kindOf asking (seatAt (room .desk) c .choices)) (clinicAt room c) ≡ plain
-      → clinicOf seat share ≡ leftBy (catalogue .sizes) asking (clinicOf (seatAt (room .desk) c) (shareLent (room .board) c))
+      → clinicOf seat share ≡ clinicAfter (catalogue .sizes) asking (clinicOf (seatAt (room .desk) c) (shareLent (room .board) c))
       → length share ≡ length (shareLent (room .board) c)
       → desk ≡ record { seats = set (room .desk .seats) c seat; next = room .desk .next }
       → record { answer = plain; room = record { desk = desk; board = shareBack (room .board) c share } }
@@ -41,6 +41,6 @@ module _ (catalogue : Catalogue) (c : ℕ) (asking : Asking) (room : Room) (zero
   unfolding done withClinic
   one-seat seat share desk says-no-more left kept same =
       let back = back-is (room .board) c share (kept ∙ own-share-length) in
-      let here : clinicOf seat share ≡ leftBy (catalogue .sizes) asking (clinicAt room c) =
-      left ∙ ap (λ (bytes : List ℕ). leftBy (catalogue .sizes) asking (clinicOf (seatAt (room .desk) c) bytes)) (lent-is (room .board) c) in
+      let here : clinicOf seat share ≡ clinicAfter (catalogue .sizes) asking (clinicAt room c) =
+      left ∙ ap (λ (bytes : List ℕ). clinicAfter (catalogue .sizes) asking (clinicOf (seatAt (room .desk) c) bytes)) (lent-is (room .board) c) in
       rw (perform-accepted catalogue (asks c asking) room zero, says-no-more, ← here, same, back)

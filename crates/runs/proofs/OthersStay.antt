@@ -1,4 +1,4 @@
--- An asking leaves its own clinic as `leftBy` says, every other clinic's record and share alone, and next; a turn gives the
+-- An asking leaves its own clinic as `clinicAfter` says, every other clinic's record and share alone, and next; a turn gives the
 -- seat that it serves one step, leaves every other clinic alone, and moves next on. Both write one clinic in its place,
 -- whose share keeps its length.
 use Prim.Native.Nat.{ℕ, _<_}
@@ -16,7 +16,7 @@ use Rattle.runs.specs.Room.{Room, seatAt, clinicAt, withClinic}
 use Rattle.runs.specs.Call.{asks}
 use Rattle.runs.specs.Turn.{seatAfter, served, turnFor, turn}
 use Rattle.runs.specs.RefusalTable.{refusal}
-use Rattle.runs.specs.Perform.{Kind, posts, leaves, reads, kindOf, byKind, leftBy, done, perform}
+use Rattle.runs.specs.Perform.{Kind, posts, leaves, reads, kindOf, byKind, clinicAfter, done, perform}
 use Rattle.runs.proofs.WithClinic.{share-length, with-same, with-other}
 use Rattle.runs.proofs.Served.{served-found}
 use Rattle.runs.proofs.Sound.{Sound}
@@ -40,7 +40,7 @@ module _
     (asking : Asking)
   where
     abbrev left : Clinic
-    left = leftBy (catalogue .sizes) asking (clinicAt room c)
+    left = clinicAfter (catalogue .sizes) asking (clinicAt room c)
 
     left-bytes : c < 8 → length (left .share) ≡ 4096
     left-bytes l =

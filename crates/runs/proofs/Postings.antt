@@ -8,20 +8,20 @@ use Rattle.search.specs.Clinic.{Clinic, nothing16, closedClinic}
 use Rattle.search.specs.Step.{posted}
 use Rattle.runs.specs.declared.Asking.the-variants.{Enter, Leave, Choose, Relax, Read}
 use Rattle.runs.specs.declared.Reading.{Reading}
-use Rattle.runs.specs.Perform.{leftBy}
+use Rattle.runs.specs.Perform.{clinicAfter}
 
 module _ (sizes : List ℕ) (clinic : Clinic) where
-  pub enter-posts : leftBy sizes Enter clinic ≡ posted sizes nothing16
+  pub enter-posts : clinicAfter sizes Enter clinic ≡ posted sizes nothing16
   enter-posts = refl
 
-  pub choose-posts : (i a : ℕ) → leftBy sizes (Choose i a) clinic ≡ posted sizes (set (clinic .seat .choices) i a)
+  pub choose-posts : (i a : ℕ) → clinicAfter sizes (Choose i a) clinic ≡ posted sizes (set (clinic .seat .choices) i a)
   choose-posts i a = refl
 
-  pub relax-posts : (i : ℕ) → leftBy sizes (Relax i) clinic ≡ posted sizes (set (clinic .seat .choices) i 255)
+  pub relax-posts : (i : ℕ) → clinicAfter sizes (Relax i) clinic ≡ posted sizes (set (clinic .seat .choices) i 255)
   relax-posts i = refl
 
-  pub leave-closes : leftBy sizes Leave clinic ≡ closedClinic
+  pub leave-closes : clinicAfter sizes Leave clinic ≡ closedClinic
   leave-closes = refl
 
-  pub reading-changes-nothing : (reading : Reading) → leftBy sizes (Read reading) clinic ≡ clinic
+  pub reading-changes-nothing : (reading : Reading) → clinicAfter sizes (Read reading) clinic ≡ clinic
   reading-changes-nothing reading = refl

@@ -28,22 +28,22 @@ unfoldable alone : ℕ → Clinic → Room
 alone c clinic = withClinic c 0 clinic (record { desk = freshDesk; board = emptyBoard })
 
 -- what comes of a clinic's call
-unfoldable answerTo : Catalogue → ℕ → Call → Clinic → Answer
-answerTo catalogue c call clinic = perform catalogue call (alone c clinic) .answer
+unfoldable answerAlone : Catalogue → ℕ → Call → Clinic → Answer
+answerAlone catalogue c call clinic = perform catalogue call (alone c clinic) .answer
 
-unfoldable clinicAfter : Catalogue → ℕ → Call → Clinic → Clinic
-clinicAfter catalogue c call clinic = clinicAt (perform catalogue call (alone c clinic) .room) c
+unfoldable aloneAfter : Catalogue → ℕ → Call → Clinic → Clinic
+aloneAfter catalogue c call clinic = clinicAt (perform catalogue call (alone c clinic) .room) c
 
 -- the answers to a clinic's calls, and record and share at the end
 pub replayedAnswers : Catalogue → ℕ → List (Call × ℕ) → Clinic → List Answer
 replayedAnswers catalogue c [] clinic = []
 replayedAnswers catalogue c ((call, n) ∷ calls) clinic =
-    answerTo catalogue c call clinic ∷ replayedAnswers catalogue c calls (steps catalogue n (clinicAfter catalogue c call clinic))
+    answerAlone catalogue c call clinic ∷ replayedAnswers catalogue c calls (steps catalogue n (aloneAfter catalogue c call clinic))
 
 pub replayedClinic : Catalogue → ℕ → List (Call × ℕ) → Clinic → Clinic
 replayedClinic catalogue c [] clinic = clinic
 replayedClinic catalogue c ((call, n) ∷ calls) clinic =
-    replayedClinic catalogue c calls (steps catalogue n (clinicAfter catalogue c call clinic))
+    replayedClinic catalogue c calls (steps catalogue n (aloneAfter catalogue c call clinic))
 
 -- an entry of a clinic's side of a run: its call with the steps after it, and the answer
 abbrev Own : Type 0
@@ -70,9 +70,9 @@ module _ (catalogue : Catalogue) (fault : faultOf catalogue ≡ 0) (c : ℕ) (l 
         (fresh-sound catalogue .eight) (fresh-sound catalogue .board-length) c 0 l clinic (fits .all-bytes)
 
   own-call : (room : Room) → Sound catalogue room → (call : Call) → isOf c call ≡ true
-      → (perform catalogue call room .answer ≡ answerTo catalogue c call (clinicAt room c))
-      × (clinicAt (perform catalogue call room .room) c ≡ clinicAfter catalogue c call (clinicAt room c))
-  unfolding answerTo clinicAfter
+      → (perform catalogue call room .answer ≡ answerAlone catalogue c call (clinicAt room c))
+      × (clinicAt (perform catalogue call room .room) c ≡ aloneAfter catalogue c call (clinicAt room c))
+  unfolding answerAlone aloneAfter
   own-call room sound (asks d asking) own =
       let fits = sound .clinics-fit c l in
       let here : d ≡ c = sym (eqb-true c d own) in
@@ -104,7 +104,7 @@ module _ (catalogue : Catalogue) (fault : faultOf catalogue ≡ 0) (c : ℕ) (l 
     one-more later true own =
         let alike = own-call room sound call own in
         let next = rw (alike .1) at later in (
-          rw (alike .0) (ap (λ (answers : List Answer). answerTo catalogue c call (clinicAt room c) ∷ answers) (next .0)),
+          rw (alike .0) (ap (λ (answers : List Answer). answerAlone catalogue c call (clinicAt room c) ∷ answers) (next .0)),
           next .1,
         )
     one-more later false other =

@@ -24,7 +24,7 @@ use Rattle.runs.specs.declared.Asking.the-variants.{Enter, Leave, Choose
 use Rattle.runs.specs.Room.{Room, seatAt, clinicAt}
 use Rattle.runs.specs.Call.{Call, asks, turns}
 use Rattle.runs.specs.RefusalTable.{askedRows, refusal, openRefusal}
-use Rattle.runs.specs.Perform.{Kind, posts, leaves, reads, kindOf, byKind, leftBy, done, perform, opening}
+use Rattle.runs.specs.Perform.{Kind, posts, leaves, reads, kindOf, byKind, clinicAfter, done, perform, opening}
 use Rattle.runs.specs.Run.{afterCalls}
 use Rattle.runs.proofs.Sound.{Sound, with-clinic-sound, fresh-sound, turns-sound}
 use Rattle.runs.proofs.Performed.{after-call, opening-accepted}
@@ -81,7 +81,7 @@ module _ (catalogue : Catalogue) (fault : faultOf catalogue ≡ 0) where
     done-sound (asks c asking) h =
         let call = accepted catalogue c asking room h in
         with-clinic-sound catalogue room sound c (room .desk .next) (call .seat-below) (sound .next-below)
-        (leftBy (catalogue .sizes) asking (clinicAt room c))
+        (clinicAfter (catalogue .sizes) asking (clinicAt room c))
         (kind-fits (kindOf asking (seatAt (room .desk) c .choices)) (clinicAt room c) (posts-within c asking call)
         (sound .clinics-fit c (call .seat-below)))
     done-sound (turns w) h = turns-sound catalogue fault w room sound

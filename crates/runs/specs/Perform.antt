@@ -14,11 +14,11 @@ use Rattle.runs.specs.declared.Asking.the-variants.{Enter, Leave, Choose
 use Rattle.runs.specs.declared.Reading.{Reading}
 use Rattle.runs.specs.declared.Reading.the-variants.{Options, Example}
 use Rattle.runs.specs.Room.{Room, roomOf, clinicAt, withClinic, freshDesk, emptyBoard}
-use Rattle.runs.specs.Call.{Call, asks, turns, Answer, refused, plain}
+use Rattle.runs.specs.Call.{Call, asks, turns, Answer, refused}
 use Rattle.runs.specs.Turn.{served, isSome, afterTurns, turnsMade}
 use Rattle.runs.specs.RefusalTable.{openRefusal, refusal}
 
--- What an asking is in a run: it posts a job under these choices, it leaves, or it reads.
+-- What an asking is: it posts a job under these choices, it leaves, or it reads.
 pub data Kind : Type 0 where
   posts : (choices : List ℕ) → Kind
   leaves : Kind
@@ -39,8 +39,8 @@ byKind sizes leaves clinic = closedClinic
 byKind sizes (reads reading) clinic = clinic
 
 -- the same by the asking itself, as laws and the code's contracts say it
-abbrev pub leftBy : List ℕ → Asking → Clinic → Clinic
-leftBy sizes asking clinic = byKind sizes (kindOf asking (clinic .seat .choices)) clinic
+abbrev pub clinicAfter : List ℕ → Asking → Clinic → Clinic
+clinicAfter sizes asking clinic = byKind sizes (kindOf asking (clinic .seat .choices)) clinic
 
 abbrev pub optionsAnswer : ℕ → Answer
 optionsAnswer mask = record { number = 0; mask = mask; count = bitsBelow 16 mask; bytes = []; made = 0; working = false }
@@ -53,8 +53,8 @@ turnsAnswer made working = record { number = 0; mask = 0; count = 0; bytes = [];
 
 -- what an accepted asking answers, by its kind; only a ready seat is read
 abbrev pub answerBy : Kind → Clinic → Answer
-answerBy (posts choices) clinic = plain
-answerBy leaves clinic = plain
+answerBy (posts choices) clinic = refused 0
+answerBy leaves clinic = refused 0
 answerBy (reads (Options i)) clinic = optionsAnswer (maskOf (clinic .seat) i)
 answerBy (reads (Example i a)) clinic = exampleAnswer (exampleIn (clinic .share) i a)
 
@@ -87,4 +87,4 @@ performed sizes list desk board call = perform (catalogueOf sizes list) call (ro
 -- Open takes no desk: a refused open hands back a fresh one, and the board as it came.
 unfoldable pub opening : Catalogue → List ℕ → Outcome
 opening catalogue board = unless (openRefusal catalogue board) (record { desk = freshDesk; board = board })
-    (record { answer = plain; room = record { desk = freshDesk; board = emptyBoard } })
+    (record { answer = refused 0; room = record { desk = freshDesk; board = emptyBoard } })

@@ -26,10 +26,11 @@ openTable catalogue board = when (not (eqb (length board) 32768)) 1 ∷ faultOf 
 unfoldable pub openRefusal : Catalogue → List ℕ → ℕ
 openRefusal catalogue board = first (openTable catalogue board)
 
--- The rows from 31 on, for those among them that are listed: of a seat's record, and the feature and the option named.
+-- a row gives its number where it is listed and its condition holds
 abbrev pub row : List ℕ → ℕ → Bool → ℕ
 row listed number condition = when (member number listed && condition) number
 
+-- the rows from 31 on, for some that are listed: of a seat's record, and the feature and the option that are named
 abbrev pub seatRows : List ℕ → List ℕ → Seat → ℕ → ℕ → List ℕ
 seatRows listed sizes seat i a = row listed 31 (isClosed (seat .state)) ∷ row listed 32 (not (isClosed (seat .state)))
     ∷ row listed 33 (isAtWork (seat .state)) ∷ row listed 34 (not (ltb i (length sizes)))

@@ -9,14 +9,14 @@ ghost use Prim.Native.Nat.{_<_, _≤_};
 ghost use lib.ListN.{length, getD, set};
 ghost use Rattle.search.specs.Clinic.{clinicOf, closedClinic, closedSeat};
 ghost use Rattle.search.specs.Step.{posted};
-ghost use Rattle.runs.specs.Perform.{leftBy};
+ghost use Rattle.runs.specs.Perform.{clinicAfter};
 ghost use Rattle.seat.specs.inner.Placeable.{Placeable};
 
 // What an accepted asking makes of a clinic: it posts a job, it leaves, or it reads and changes nothing.
-pub fn left_by(asking: Asking, seat: Seat, share: &mut [u8], sizes: &[u8]) -> Seat
+pub fn clinic_after(asking: Asking, seat: Seat, share: &mut [u8], sizes: &[u8]) -> Seat
     requires { ⌜ (length (now share) ≡ 4096) × (1 ≤ getD (now sizes) 0 0) × Placeable asking ⌝ }
     ensures { λ r. ⌜ clinicOf r (now (share .exit))
-        ≡ leftBy (now (sizes .entry)) asking (clinicOf seat (now (share .entry))) ⌝ }
+        ≡ clinicAfter (now (sizes .entry)) asking (clinicOf seat (now (share .entry))) ⌝ }
 {
     match asking {
         Asking::Enter => post([255u8; 16], share, sizes),

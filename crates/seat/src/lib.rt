@@ -1,4 +1,4 @@
-// One clinic's record: looked at, and what an asking makes of it; the candidates of a search; its share of the board.
+// What an asking makes of one clinic; the candidates of a search; the clinic's share of the board.
 mod candidates;
 mod job;
 mod share;
@@ -7,8 +7,8 @@ pub use candidates::Next;
 pub use candidates::first_candidate;
 pub use candidates::next_candidate;
 pub use candidates::started;
+pub use job::clinic_after;
 pub use job::closed;
-pub use job::left_by;
 pub use search::Place;
 pub use search::Seat;
 pub use search::State;

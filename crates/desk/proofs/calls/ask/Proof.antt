@@ -37,23 +37,23 @@ mul-from c = omega (arith, below c)
 add-to : tie.Need-add-to
 add-to c = omega (arith, below c)
 
-mul-left-by : tie.Need-mul-left-by
-mul-left-by c = omega (arith, below (c .before))
+mul-clinic-after : tie.Need-mul-clinic-after
+mul-clinic-after c = omega (arith, below (c .before))
 
-array-copy-out-left-by : tie.Need-array-copy-out-left-by
-array-copy-out-left-by c = below (c .before)
+array-copy-out-clinic-after : tie.Need-array-copy-out-clinic-after
+array-copy-out-clinic-after c = below (c .before)
 
-sub-left-by : tie.Need-sub-left-by
-sub-left-by c = search needs
+sub-clinic-after : tie.Need-sub-clinic-after
+sub-clinic-after c = search needs
 
-part-left-by-start : tie.Need-part-left-by-start
-part-left-by-start c = search needs
+part-clinic-after-start : tie.Need-part-clinic-after-start
+part-clinic-after-start c = search needs
 
-part-left-by-end : tie.Need-part-left-by-end
-part-left-by-end c = omega (arith, below (c .before .before), passed (c .before .before) .checks .board-length)
+part-clinic-after-end : tie.Need-part-clinic-after-end
+part-clinic-after-end c = omega (arith, below (c .before .before), passed (c .before .before) .checks .board-length)
 
-left-by-requires : tie.Need-left-by-requires
-left-by-requires c κs =
+clinic-after-requires : tie.Need-clinic-after-requires
+clinic-after-requires c κs =
     let call = passed (c .before .before .before) in (
       own-share-length _ _ _ _ (not-refused (c .before .before .before)),
       first-has-option _ (call .checks .faultless),
@@ -68,7 +68,7 @@ same-length c = search needs
 
 returns-2 : tie.Need-returns-2
 returns-2 c =
-    let called = c .before .before .before .left-by in
+    let called = c .before .before .before .clinic-after in
     let start = c .before .before .before .before .before .before .before .before .before .before .before .before in
     one-seat _ _ _ _ (not-refused (c .before .before .before .before .before .before .before)) _ _ _ (start .pre _ _)
     (called .ensures) (called .kept .1 .1 .0) (c .with-seat .ensures)
@@ -81,12 +81,12 @@ ask-spec =
     returns
     mul-from
     add-to
-    mul-left-by
-    array-copy-out-left-by
-    sub-left-by
-    part-left-by-start
-    part-left-by-end
-    left-by-requires
+    mul-clinic-after
+    array-copy-out-clinic-after
+    sub-clinic-after
+    part-clinic-after-start
+    part-clinic-after-end
+    clinic-after-requires
     with-seat-requires
     same-length
     returns-2)

@@ -3,8 +3,8 @@ use Prim.Native.Nat.{_<_}
 use mathlib.Core.Path.{refl}
 use lib.Dec.{lit<}
 use borrow.Author.Needs.{needs}
-use Rattle.seat.proofs.job.left_by.Statement.{statement}
-use Rattle.seat.proofs.job.left_by.Tie as tie
+use Rattle.seat.proofs.job.clinic_after.Statement.{statement}
+use Rattle.seat.proofs.job.clinic_after.Tie as tie
 
 enum-told : tie.Need-enum-told
 enum-told c = search needs
@@ -71,8 +71,8 @@ returns-4 c = rw (c .before .before .before .before .before .asking2 .given .1) 
 returns-5 : tie.Need-returns-5
 returns-5 c = rw (c .enum-told3 .given .1) refl
 
-pub left-by-spec : {M : Type 1} → statement M
-left-by-spec =
+pub clinic-after-spec : {M : Type 1} → statement M
+clinic-after-spec =
     tie.close
     (tie.spec
     enum-told
