@@ -6,16 +6,12 @@ use mathlib.Core.Path.{_≡_, refl}
 use mathlib.Core.Bool.{Bool, true, false}
 use mathlib.Core.List.{List, [], _∷_}
 use mathlib.Core.Option.{Option, none, some}
-use native.Mathlib.Omega.{arith}
 use lib.ListN.{length}
 use lib.Dec.{eqb}
 use borrow.Author.Tests.{eqb-true, eqb-false}
 use Rattle.builds.specs.Catalogue.{Catalogue}
 use Rattle.builds.specs.Checks.{first}
 use Rattle.builds.specs.Fault.{faultOf}
-use Rattle.search.specs.declared.State.{State}
-use Rattle.search.specs.declared.State.the-variants.{Closed, Ready, AtWork}
-use Rattle.search.specs.Look.{isClosed, isAtWork}
 use Rattle.search.specs.Clinic.{Clinic, closedClinic}
 use Rattle.search.specs.Step.{step}
 use Rattle.search.proofs.ClinicFits.{ClinicFits}
@@ -44,16 +40,6 @@ pub record Invariant (catalogue : Catalogue) (P : Clinic → Type 0) : Type 0 wh
       → (asking : Asking) → first (askedRows (catalogue .sizes) (clinic .seat) asking) ≡ 0
       → (choices : List ℕ) → kindOf asking (clinic .seat .choices) ≡ posts choices
       → P (byKind (catalogue .sizes) (posts choices) clinic)
-
-pub is-closed : (state : State) → isClosed state ≡ true → state ≡ Closed
-is-closed Closed h = refl
-is-closed Ready h = let z : _≡_ {A = ℕ} 0 1 = cc in absurd (omega arith)
-is-closed (AtWork p) h = let z : _≡_ {A = ℕ} 0 1 = cc in absurd (omega arith)
-
-pub is-ready : (state : State) → isClosed state ≡ false → isAtWork state ≡ false → state ≡ Ready
-is-ready Closed h k = let z : _≡_ {A = ℕ} 0 1 = cc in absurd (omega arith)
-is-ready Ready h k = refl
-is-ready (AtWork p) h k = let z : _≡_ {A = ℕ} 0 1 = cc in absurd (omega arith)
 
 module _ (catalogue : Catalogue) (fault : faultOf catalogue ≡ 0) (P : Clinic → Type 0) (invariant : Invariant catalogue P) where
   -- every clinic of a room has it

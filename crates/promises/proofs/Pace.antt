@@ -50,9 +50,7 @@ module _
     still-at-work : (clinic : Clinic) (given : ℕ) → clinic ≡ steps catalogue given start → given < K
         → isAtWork (clinic .seat .state) ≡ true
     still-at-work clinic given same l =
-        let work = takes .at-work given l in
-        let state = ap (λ (x : Clinic). x .seat .state) same ∙ work .1 in
-        rw state refl
+        ap (λ (x : Clinic). isAtWork (x .seat .state)) same ∙ takes .at-work given l
 
     turn-waited : (asked : ℕ) (room : Room) → Sound catalogue room → WaitedFor asked room → WaitedFor (asked + 1) (turn catalogue room)
     turn-waited asked room sound waited = record {

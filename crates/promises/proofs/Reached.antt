@@ -23,7 +23,7 @@ use Rattle.search.specs.Count.{jobSteps}
 use Rattle.search.proofs.ClinicFits.{ClinicFits}
 use Rattle.search.proofs.StepsAdded.{steps-added, closed-stays}
 use Rattle.search.proofs.JobSteps.{job-steps, job-choices}
-use Rattle.search.proofs.ReadyOnce.{ready-stays}
+use Rattle.search.proofs.ReadyOnce.{ready-stays, is-ready}
 use Rattle.search.proofs.ReadyJob.{ended, maskAt, job-ready-after, left-exactly}
 use Rattle.runs.specs.declared.Asking.{Asking}
 use Rattle.runs.specs.declared.Asking.the-variants.{Enter, Leave, Choose, Relax, Read}
@@ -35,7 +35,7 @@ use Rattle.runs.proofs.AcceptedCalls.{choose-passed, relax-passed}
 use Rattle.promises.specs.Moment.{moment, Opened}
 use Rattle.promises.proofs.SoundMoments.{opened-faultless}
 use Rattle.promises.proofs.KeptChoices.{Kept, no-choice, by-build, kept-fit, build-set, kept-dropped}
-use Rattle.promises.proofs.AtEveryMoment.{Invariant, at-every-moment, is-ready}
+use Rattle.promises.proofs.AtEveryMoment.{Invariant, at-every-moment}
 
 pub data Reached (catalogue : Catalogue) (clinic : Clinic) : Type 0 where
   blank : clinic ≡ closedClinic → Reached catalogue clinic

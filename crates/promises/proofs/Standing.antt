@@ -38,7 +38,7 @@ stands-after catalogue start clinic given K same takes few = searching K same ta
     all-given : (t : Bool) → ltb given K ≡ t → clinic .seat .state ≡ Ready → given ≡ K
     all-given true e ready =
         let work = takes .at-work given (ltb-true given K e) in
-        absurd (not-both (clinic .seat .state) (work .0) ready (ap (λ (x : Clinic). x .seat .state) same ∙ work .1))
+        absurd (not-both (clinic .seat .state) ready (ap (λ (x : Clinic). isAtWork (x .seat .state)) same ∙ work))
     all-given false e ready = let most = ltb-false given K e in omega arith
 
     then-ready : given ≡ K → clinic .seat .state ≡ Ready

@@ -15,6 +15,7 @@ use Rattle.builds.specs.Fault.{faultOf}
 use Rattle.builds.specs.Build.{IsBuild, BuildWith, FirstWith, padded}
 use Rattle.builds.specs.Gic.{GicClosure}
 use Rattle.search.specs.Bits.{hasBit}
+use Rattle.search.specs.Look.{isAtWork}
 use Rattle.search.specs.Clinic.{Clinic, nothing16, noneLeft, emptyShare, exampleIn}
 use Rattle.search.specs.Step.{steps, posted, ReadyAfter}
 use Rattle.search.specs.Count.{pairSearch, jobSteps}
@@ -39,7 +40,7 @@ module _ (catalogue : Catalogue) (fault : faultOf catalogue ≡ 0) (choices : Li
   job-ready-after =
       record {
         ready = rw (job-steps catalogue fault choices) refl;
-        at-work = λ n l. let w = job-at-work catalogue fault choices n l in (w .place, w .at-work);
+        at-work = λ n l. ap isAtWork (job-at-work catalogue fault choices n l .at-work);
       }
 
   -- the bit of a pair is set just where its search finds something

@@ -6,21 +6,26 @@ use native.Mathlib.Omega.{arith}
 use lib.Dec.{ltb}
 use borrow.Author.Tests.{ltb-true, ltb-false}
 use Rattle.builds.specs.Catalogue.{Catalogue}
-use Rattle.search.specs.declared.Place.{Place}
 use Rattle.search.specs.declared.State.{State}
-use Rattle.search.specs.declared.State.the-variants.{Ready, AtWork}
+use Rattle.search.specs.declared.State.the-variants.{Closed, Ready, AtWork}
+use Rattle.search.specs.Look.{isClosed, isAtWork}
 use Rattle.search.specs.Clinic.{Clinic}
 use Rattle.search.specs.Step.{stepFrom, step, steps, ReadyAfter}
 
-pub not-both : (state : State) (p : Place) → state ≡ Ready → state ≡ AtWork p → ⊥
-not-both state p ready work = let z : _≡_ {A = ℕ} 0 1 = cc in omega arith
+pub is-ready : (state : State) → isClosed state ≡ false → isAtWork state ≡ false → state ≡ Ready
+is-ready Closed h k = let z : _≡_ {A = ℕ} 0 1 = cc in absurd (omega arith)
+is-ready Ready h k = refl
+is-ready (AtWork p) h k = let z : _≡_ {A = ℕ} 0 1 = cc in absurd (omega arith)
+
+pub not-both : (state : State) → state ≡ Ready → isAtWork state ≡ true → ⊥
+not-both state ready work = let z : _≡_ {A = ℕ} 0 1 = cc (ap isAtWork ready) in omega arith
 
 module _ (catalogue : Catalogue) (start : Clinic) where
   not-before : (k m : ℕ) → ReadyAfter catalogue start k → ReadyAfter catalogue start m → m ≤ k
   not-before k m r s = go (ltb k m) refl
     where
       go : (b : Bool) → ltb k m ≡ b → m ≤ k
-      go true e = let work = s .at-work k (ltb-true k m e) in absurd (not-both _ (work .0) (r .ready) (work .1))
+      go true e = absurd (not-both _ (r .ready) (s .at-work k (ltb-true k m e)))
       go false e = ltb-false k m e
 
   pub ready-once : (k m : ℕ) → ReadyAfter catalogue start k → ReadyAfter catalogue start m → k ≡ m

@@ -1,7 +1,7 @@
 -- The written search, a step at a time, and posting a job for it.
 use Prim.Native.Nat.{ℕ, zero, suc, _+_, _<_}
 use mathlib.Core.Path.{_≡_}
-use mathlib.Core.Bool.{cond}
+use mathlib.Core.Bool.{true, cond}
 use mathlib.Core.List.{List}
 use mathlib.Core.Option.{Option, none, some}
 use lib.ListN.{length, getD, set}
@@ -11,6 +11,7 @@ use Rattle.builds.specs.Rule.{passes}
 use Rattle.search.specs.declared.Place.{Place}
 use Rattle.search.specs.declared.State.{State}
 use Rattle.search.specs.declared.State.the-variants.{Closed, Ready, AtWork}
+use Rattle.search.specs.Look.{isAtWork}
 use Rattle.search.specs.Clinic.{Clinic, nothing16, emptyShare, freshSeat, withExample, moved}
 use Rattle.search.specs.Candidates.{firstCandidate, nextCandidate, chosenOtherwise}
 
@@ -85,4 +86,4 @@ posted sizes choices = record { seat = freshSeat (started sizes choices 0 0) cho
 -- K, for a job as its posting left record and share: after K steps the seat is ready, and after fewer it is at work.
 pub record ReadyAfter (catalogue : Catalogue) (start : Clinic) (k : ℕ) : Type 0 where
   pub ready : steps catalogue k start .seat .state ≡ Ready
-  pub at-work : (n : ℕ) → n < k → (p : Place) × (steps catalogue n start .seat .state ≡ AtWork p)
+  pub at-work : (n : ℕ) → n < k → isAtWork (steps catalogue n start .seat .state) ≡ true
