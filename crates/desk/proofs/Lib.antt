@@ -1,3 +1,2 @@
 -- What the calls cite.
 pub mod Placed
-pub mod Readings

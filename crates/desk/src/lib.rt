@@ -10,7 +10,6 @@
 //     └─────────────────┴───────────────────────────────────┘
 //                                leave
 mod calls;
-mod reading;
 mod turning;
 
 pub use calls::choose;

@@ -35,7 +35,7 @@ pub fn make_turns(desk: Desk, board: &mut [u8], sizes: &[u8], rules: &[u16], w: 
     let mut places = [0u16; 1024];
     let mut counts = [0u8; 16];
     placed::starts_of(rules, &mut places, &mut counts);
-    let edge = step::edge();
+    let edge = arrays::edge();
     let mut seats = desk.seats;
     let mut next = desk.next;
     let mut working = seats_at_work(seats);

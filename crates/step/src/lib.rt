@@ -3,4 +3,3 @@ mod lent;
 mod written;
 
 pub use lent::step_in;
-pub use written::edge;

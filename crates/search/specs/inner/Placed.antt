@@ -1,8 +1,10 @@
--- What is placed, and what is kept of it.
+-- What is placed and what is kept of it; what a build that is found adds to the masks.
 use Prim.Native.Nat.{ℕ, _-_, _≤_, _<_}
 use mathlib.Core.Path.{_≡_}
+use mathlib.Core.Bool.{Bool, cond}
 use mathlib.Core.List.{List, _++_}
-use lib.ListN.{length, getD, take, replicate}
+use lib.ListN.{length, getD, take, set, replicate}
+use Rattle.search.specs.Bits.{withBit}
 
 -- the options placed before a depth, 255 from there on
 unfoldable pub keptBefore : ℕ → List ℕ → List ℕ
@@ -17,3 +19,7 @@ pub record PlacedAt (j : ℕ) (placed : List ℕ) : Type 0 where
 -- sixteen times 255, then sixteen times 0: read from 16 − d on, 255 before depth d and 0 from there on
 abbrev pub edgeBytes : List ℕ
 edgeBytes = replicate 16 255 ++ replicate 16 0
+
+-- the masks, with the bit of an option for which a build was found
+abbrev pub masksWith : Bool → ℕ → ℕ → List ℕ → List ℕ
+masksWith found i a masks = cond found (set masks i (withBit (getD masks i 0) a)) masks

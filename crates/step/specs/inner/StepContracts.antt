@@ -12,10 +12,9 @@ use Rattle.search.specs.declared.Place.{Place}
 use Rattle.step.specs.declared.written.After.{After}
 use Rattle.step.specs.declared.written.Way.{Way}
 use Rattle.step.specs.declared.written.Way.the-variants.{GoOn, Build, Exhausted}
-use Rattle.search.specs.Bits.{withBit}
 use Rattle.search.specs.Clinic.{Clinic, clinicOf, seatWith}
 use Rattle.search.specs.RecordFits.{placeFits, seatFits}
-use Rattle.search.specs.inner.Placed.{keptBefore, PlacedAt, edgeBytes}
+use Rattle.search.specs.inner.Placed.{keptBefore, PlacedAt, edgeBytes, masksWith}
 use Rattle.search.specs.Step.{Tried, goOn, build, exhausted, stepAt, step}
 
 abbrev pub triedOf : Way → List ℕ → Tried
@@ -51,10 +50,6 @@ pub record TryNeeds (catalogue : Catalogue) (place : Place) (choices placed plac
   pub placed-so : PlacedAt (place .depth) placed
   pub tried : getD placed (place .depth) 255 ≡ place .next
   pub starts : AllStarts (catalogue .list) places counts
-
--- the masks, with the bit of an option for which a build was found
-abbrev pub masksWith : Bool → ℕ → ℕ → List ℕ → List ℕ
-masksWith found i a masks = cond found (set masks i (withBit (getD masks i 0) a)) masks
 
 -- the record after a step, by what the step comes to
 abbrev pub recordAfter : After → Place → List ℕ → Seat → Seat

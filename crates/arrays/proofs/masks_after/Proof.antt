@@ -13,8 +13,8 @@ use lib.Seq.{getD-set-same, getD-set-other}
 use Rattle.search.specs.Bits.{withBit}
 use Rattle.search.proofs.Bits.{or-shifted-bit}
 use Rattle.search.proofs.Filled.{one-filled, all-filled}
-use Rattle.step.proofs.written.masks_after.Statement.{statement}
-use Rattle.step.proofs.written.masks_after.Tie as tie
+use Rattle.arrays.proofs.masks_after.Statement.{statement}
+use Rattle.arrays.proofs.masks_after.Tie as tie
 
 -- one entry as the code makes it
 entry-made : (masks : List ℕ) (i a f : ℕ) → a < 16 → i < length masks

@@ -8,8 +8,8 @@ use Rattle.builds.proofs.PlacedWalks.{getD-within}
 use Rattle.search.specs.inner.Placed.{keptBefore}
 use Rattle.search.proofs.Filled.{one-filled, all-filled}
 use Rattle.search.proofs.KeptBefore.{kept-length, entry-made}
-use Rattle.step.proofs.written.trial_after.Statement.{statement}
-use Rattle.step.proofs.written.trial_after.Tie as tie
+use Rattle.arrays.proofs.trial_after.Statement.{statement}
+use Rattle.arrays.proofs.trial_after.Tie as tie
 
 abbrev Inv-loop : tie.InvT-loop
 Inv-loop edge depth next kept trial old new after₀ f₀ after f =

@@ -2,8 +2,8 @@
 use mathlib.Core.Path.{refl, sym, _∙_}
 use borrow.Author.Needs.{needs}
 use Rattle.runs.proofs.Performed.{perform-number}
-use Rattle.desk.proofs.reading.example_number.Statement.{statement}
-use Rattle.desk.proofs.reading.example_number.Tie as tie
+use Rattle.reading.proofs.example_number.Statement.{statement}
+use Rattle.reading.proofs.example_number.Tie as tie
 
 number-requires : tie.Need-number-requires
 number-requires c κs = search needs

@@ -6,8 +6,8 @@ use native.Mathlib.Omega.{arith}
 use borrow.Author.Fill.{fill-more}
 use borrow.Author.Needs.{needs}
 use lib.ListN.{length, drop, replicate, set}
-use Rattle.step.proofs.written.edge.Statement.{statement}
-use Rattle.step.proofs.written.edge.Tie as tie
+use Rattle.arrays.proofs.edge.Statement.{statement}
+use Rattle.arrays.proofs.edge.Tie as tie
 
 abbrev Inv-loop : tie.InvT-loop
 Inv-loop bytes₀ i₀ bytes i = (i ≤ 16) × (bytes ≡ replicate i 255 ++ drop i (replicate 32 0))

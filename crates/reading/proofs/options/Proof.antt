@@ -16,8 +16,8 @@ use Rattle.runs.proofs.Performed.{perform-accepted}
 use Rattle.runs.proofs.AcceptedCalls.{AcceptedAsking, accepted}
 use Rattle.runs.proofs.OneSeat.{refused-call}
 use Rattle.runs.proofs.WithClinic.{with-own}
-use Rattle.desk.proofs.reading.options.Statement.{statement}
-use Rattle.desk.proofs.reading.options.Tie as tie
+use Rattle.reading.proofs.options.Statement.{statement}
+use Rattle.reading.proofs.options.Tie as tie
 
 number-requires : tie.Need-number-requires
 number-requires c κs = search needs

@@ -16,9 +16,9 @@ use Rattle.runs.proofs.Performed.{perform-number, perform-accepted}
 use Rattle.runs.proofs.AcceptedCalls.{AcceptedAsking, accepted, passed}
 use Rattle.runs.proofs.OneSeat.{refused-call}
 use Rattle.runs.proofs.NamedBounds.{feature-bounds}
-use Rattle.desk.proofs.Readings.{example-on-board}
-use Rattle.desk.proofs.reading.example.Statement.{statement}
-use Rattle.desk.proofs.reading.example.Tie as tie
+use Rattle.reading.proofs.Readings.{example-on-board}
+use Rattle.reading.proofs.example.Statement.{statement}
+use Rattle.reading.proofs.example.Tie as tie
 
 example-number-requires : tie.Need-example-number-requires
 example-number-requires c κs = search needs

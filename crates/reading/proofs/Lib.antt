@@ -1,0 +1,2 @@
+-- What the calls that read a seat cite.
+pub mod Readings
