@@ -43,8 +43,6 @@ use Rattle.promises.proofs.InARun.{every-run as proved-every-run}
 use Rattle.promises.proofs.LastJob.{last-job as proved-last-job}
 use Rattle.promises.proofs.Posting.{posting as proved-posting}
 use Rattle.promises.proofs.TurnsAnswered.{every-turns as proved-every-turns, one-turn as proved-one-turn}
-use Rattle.promises.proofs.Frame.{sound-whole}
-use Rattle.promises.proofs.SoundMoments.{sound-moment}
 use Rattle.trials.proofs.OnTheTrolley.{board, opens, ready, seven, takes-39, chosen}
 
 -- ---- demand 2, with option 0 of feature 2 chosen (P7)
@@ -124,7 +122,7 @@ left-again demand traced =
     rw (shown .options-answer) (shown .left-exactly 1 .1 (0 ∷ 1 ∷ 1 ∷ [], rw (no-choice traced) has-011))
 
 whole : (calls : List Call) → Whole (moment trolley board calls)
-whole calls = sound-whole (sound-moment trolley board opens calls)
+whole calls = proved-last-job .whole trolley board opens calls
 
 relax-taken : perform trolley (asks 0 (Relax 2)) (moment trolley board chosen) .answer .number ≡ 0
 unfolding board ready chosen computing moment
@@ -133,6 +131,18 @@ relax-taken = refl
 relaxed : EveryPosting → clinicAt (perform trolley (asks 0 (Relax 2)) (moment trolley board chosen) .room) 0 ≡ posted (trolley .sizes) nothing16
 relaxed demand =
     rw in-force at (demand trolley (moment trolley board chosen) (whole chosen) 0 .relaxed 2 relax-taken)
+
+-- a posted job has the choices that it is posted under, and looking at options changes nothing
+posted-under : EveryPosting → posted (trolley .sizes) lastChosen .seat .choices ≡ lastChosen
+posted-under demand = demand trolley (moment trolley board chosen) (whole chosen) 0 .posts lastChosen .under
+
+options-taken : perform trolley (asks 0 (Read (Options 1))) (moment trolley board chosen) .answer .number ≡ 0
+unfolding board ready chosen computing moment
+options-taken = refl
+
+looked : EveryPosting
+    → clinicAt (perform trolley (asks 0 (Read (Options 1))) (moment trolley board chosen) .room) 0 ≡ clinicAt (moment trolley board chosen) 0
+looked demand = demand trolley (moment trolley board chosen) (whole chosen) 0 .read (Options 1) options-taken
 
 -- ---- waiting beside a clinic that leaves and enters again, and a refused call
 
@@ -256,6 +266,13 @@ option-1-back = left-again proved-options-left proved-own-choices
 
 pub relax-posts : clinicAt (perform trolley (asks 0 (Relax 2)) (moment trolley board chosen) .room) 0 ≡ posted (trolley .sizes) nothing16
 relax-posts = relaxed proved-posting
+
+pub choices-posted : posted (trolley .sizes) lastChosen .seat .choices ≡ lastChosen
+choices-posted = posted-under proved-posting
+
+pub looking-changes-nothing : clinicAt (perform trolley (asks 0 (Read (Options 1))) (moment trolley board chosen) .room) 0
+    ≡ clinicAt (moment trolley board chosen) 0
+looking-changes-nothing = looked proved-posting
 
 pub ready-beside-busy : seatIn (moment trolley board (seven ++ asks 7 Enter ∷ busy)) 7 .state ≡ Ready
 ready-beside-busy = beside-busy proved-waiting
