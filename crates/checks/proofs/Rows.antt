@@ -1,30 +1,16 @@
--- The walks of the table, one row further. Rows that were passed gave no number, and numbers that were passed are others, so
--- that what is found from an index on is what is found in all.
+-- The walk of the table, one row further. Rows that were passed gave no number, so that what is found from an index on is
+-- what is found in all.
 use Prim.Native.Nat.{ℕ, _+_, _≤_, _<_}
 use mathlib.Core.Path.{_≡_, refl}
 use mathlib.Core.Bool.{Bool, true, false, not}
 use mathlib.Core.List.{List}
-use borrow.Author.Tests.{eq-eqb, ne-eqb, ltb-true, ltb-false, lt-leb, le-leb}
+use borrow.Author.Tests.{ltb-true, ltb-false, lt-leb, le-leb}
 use lib.ListN.{length, getD, drop}
 use lib.Dec.{ltb, leb}
 use Rattle.builds.specs.Checks.{first}
-use Rattle.builds.specs.Lists.{member}
 use Rattle.builds.proofs.ListWalks.{left-next, left-none, first-row}
 
 module _ (list : List ℕ) (i : ℕ) where
-  module _ (number : ℕ) where
-    pub member-next : i < length list → (number ≡ getD list i 0 → ⊥) → member number (drop i list) ≡ member number (drop (i + 1) list)
-    unfolding member
-    member-next h other = rw (left-next list i h, ne-eqb number (getD list i 0) other)
-
-    pub member-here : i < length list → number ≡ getD list i 0 → member number (drop i list) ≡ true
-    unfolding member
-    member-here h same = rw (left-next list i h, eq-eqb number (getD list i 0) same)
-
-    pub member-none : length list ≤ i → member number (drop i list) ≡ false
-    unfolding member
-    member-none h = rw (left-none list i h)
-
   pub first-next : i < length list → getD list i 0 ≡ 0 → first (drop i list) ≡ first (drop (i + 1) list)
   first-next h none = rw (left-next list i h, none) refl
 

@@ -84,11 +84,8 @@ asked-rows sizes seat (Read (Options i)) = record { listed = 31 ∷ 33 ∷ 34 �
 asked-rows sizes seat (Read (Example i a)) =
     record { listed = 31 ∷ 33 ∷ 34 ∷ 35 ∷ 37 ∷ []; feature = i; option = a; is-seat-rows = refl }
 
--- the same of each asking that changes its clinic, by the rows that it lists
+-- the same of choose and relax, by the rows that they list
 module _ (sizes : List ℕ) (seat : Seat) where
-  pub enter-passed : first (askedRows sizes seat Enter) ≡ 0 → RowsPassed (32 ∷ []) sizes seat 0 0
-  enter-passed = passed (32 ∷ []) sizes seat 0 0
-
   pub choose-passed : {i a : ℕ} → first (askedRows sizes seat (Choose i a)) ≡ 0
       → RowsPassed (31 ∷ 33 ∷ 34 ∷ 35 ∷ 36 ∷ 37 ∷ []) sizes seat i a
   choose-passed {i} {a} = passed (31 ∷ 33 ∷ 34 ∷ 35 ∷ 36 ∷ 37 ∷ []) sizes seat i a

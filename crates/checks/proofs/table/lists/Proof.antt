@@ -5,7 +5,7 @@ use native.Mathlib.Omega.{arith}
 use borrow.Author.Needs.{needs}
 use lib.ListN.{length, drop}
 use Rattle.builds.specs.Lists.{member}
-use Rattle.checks.proofs.Rows.{member-next, member-here, member-none}
+use Rattle.builds.proofs.ListWalks.{member-next, member-here, member-none}
 use Rattle.checks.proofs.table.lists.Statement.{statement}
 use Rattle.checks.proofs.table.lists.Tie as tie
 

@@ -1,9 +1,10 @@
 -- What open checks comes first. A catalogue that passes has no fault, and so the desk may be tested.
+use Prim.Native.Nat.{ℕ}
+use mathlib.Core.List.{List}
 use mathlib.Core.Path.{refl, sym, _∙_}
 use borrow.Author.Needs.{needs}
-use lib.ListN.{length-replicate}
+use lib.ListN.{replicate, length-replicate}
 use Rattle.runs.proofs.AcceptedCalls.{opened}
-use Rattle.runs.proofs.NamedBounds.{someBoard}
 use Rattle.checks.proofs.Adds.{turns-adds, refused-already, decided-by}
 use Rattle.checks.proofs.table.turns_number.Statement.{statement}
 use Rattle.checks.proofs.table.turns_number.Tie as tie
@@ -16,7 +17,7 @@ returns c board same w = refused-already (turns-adds _ _ w) (c .before .open-num
 
 desk-fits-requires : tie.Need-desk-fits-requires
 desk-fits-requires c κs =
-    let board = someBoard (c .before .before .before .before .args .board-length) in
+    let board : List ℕ = replicate (c .before .before .before .before .args .board-length) 0 in
     opened _ board (sym (c .before .open-number .ensures board (length-replicate _ 0)) ∙ c .if1 .left) .1
 
 returns-2 : tie.Need-returns-2
