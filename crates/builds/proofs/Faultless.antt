@@ -6,34 +6,27 @@ use mathlib.Core.Bool.{true, and-eq-true-iff}
 use mathlib.Core.List.{List, [], _∷_}
 use lib.ListN.{length, getD, drop}
 use lib.Dec.{leb}
-use borrow.Author.Tests.{ltb-false, le-ltb, leb-true, le-leb}
+use borrow.Author.Tests.{ltb-false, le-ltb, le-leb}
 use Rattle.builds.specs.Catalogue.{Catalogue, arity, width}
-use Rattle.builds.specs.Fault.{sizesFault, rulesFault, faultOf, oneTo16}
+use Rattle.builds.specs.Fault.{sizesFault, rulesFault, faultOf}
 use Rattle.builds.specs.inner.Starts.{wholeRule, wholeRules}
-use Rattle.builds.specs.Lists.{Every}
+use Rattle.builds.specs.Lists.{Every, OneTo}
 use Rattle.builds.proofs.Every.{every-at}
+use Rattle.builds.proofs.OneTo.{one-to, to-one}
 use Rattle.builds.proofs.Inversion.{orElse-zero, when-zero, when-not-zero, ruleFault-zero}
 use Rattle.builds.proofs.WholeRule.{WholeRule}
 
-pub oneTo16-bounds : (n : ℕ) → oneTo16 n ≡ true → (1 ≤ n) × (n ≤ 16)
-oneTo16-bounds n h =
-    let t = and-eq-true-iff (leb 1 n) (leb n 16) .0 h in
-    (leb-true 1 n (t .0), leb-true n 16 (t .1))
-
-pub bounds-oneTo16 : (n : ℕ) → (1 ≤ n) × (n ≤ 16) → oneTo16 n ≡ true
-bounds-oneTo16 n h = and-eq-true-iff (leb 1 n) (leb n 16) .1 (le-leb 1 n (h .0), le-leb n 16 (h .1))
-
-pub sizesFault-every : (sizes : List ℕ) → sizesFault sizes ≡ 0 → Every (λ (size : ℕ). (1 ≤ size) × (size ≤ 16)) sizes
+pub sizesFault-every : (sizes : List ℕ) → sizesFault sizes ≡ 0 → Every (OneTo 16) sizes
 unfolding sizesFault
 sizesFault-every [] h = Every.none
 sizesFault-every (size ∷ sizes) h =
     let t = orElse-zero _ _ h in
-    Every.also (oneTo16-bounds size (when-not-zero _ 10 (t .0))) (sizesFault-every sizes (t .1))
+    Every.also (to-one 16 size (when-not-zero _ _ (t .0))) (sizesFault-every sizes (t .1))
 
-pub every-sizesFault : {sizes : List ℕ} → Every (λ (size : ℕ). (1 ≤ size) × (size ≤ 16)) sizes → sizesFault sizes ≡ 0
+pub every-sizesFault : {sizes : List ℕ} → Every (OneTo 16) sizes → sizesFault sizes ≡ 0
 unfolding sizesFault
 every-sizesFault Every.none = refl
-every-sizesFault (Every.also {x = size} h hs) = rw (bounds-oneTo16 size h, every-sizesFault hs) refl
+every-sizesFault (Every.also {x = size} h hs) = rw (one-to 16 size h, every-sizesFault hs) refl
 
 pub sizesFault-at : (sizes : List ℕ) → sizesFault sizes ≡ 0 → (i : ℕ) → i < length sizes
     → (1 ≤ getD sizes i 0) × (getD sizes i 0 ≤ 16)
@@ -53,12 +46,12 @@ fault-zero catalogue h =
     let t2 = orElse-zero _ _ (t1 .1) in
     let t3 = orElse-zero _ _ (t2 .1) in
     let t4 = orElse-zero _ _ (t3 .1) in
-    let count = oneTo16-bounds (length (catalogue .sizes)) (when-not-zero _ 9 (t1 .0)) in
+    let count = to-one 16 (length (catalogue .sizes)) (when-not-zero _ _ (t1 .0)) in
     record {
       some-feature = count .0;
       few-features = count .1;
       sizes-fit = t2 .0;
-      list-fits = ltb-false 8192 (length (catalogue .list)) (when-zero _ 11 (t3 .0));
+      list-fits = ltb-false 8192 (length (catalogue .list)) (when-zero _ _ (t3 .0));
       rules-fit = t4 .0;
     }
 
@@ -66,7 +59,7 @@ pub faultless-zero : (catalogue : Catalogue) → Faultless catalogue → faultOf
 unfolding faultOf
 faultless-zero catalogue f =
     rw (
-      bounds-oneTo16 (length (catalogue .sizes)) (f .some-feature, f .few-features),
+      one-to 16 (length (catalogue .sizes)) (f .some-feature, f .few-features),
       f .sizes-fit,
       le-ltb 8192 (length (catalogue .list)) (f .list-fits),
       f .rules-fit,
@@ -83,7 +76,7 @@ whole-test list w =
 
 pub rulesFault-whole : (n : ℕ) (sizes list : List ℕ) → rulesFault n sizes list ≡ 0 → wholeRules n list ≡ true
 unfolding rulesFault wholeRules
-rulesFault-whole zero sizes list h = when-not-zero _ 12 h
+rulesFault-whole zero sizes list h = when-not-zero _ _ h
 rulesFault-whole (suc n) sizes [] h = refl
 rulesFault-whole (suc n) sizes (x ∷ xs) h =
     let t = orElse-zero _ _ h in

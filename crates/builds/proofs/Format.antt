@@ -80,20 +80,17 @@ module _ (sizes : List ℕ) where
       refl
 
 fault-accepted : (catalogue : Catalogue) → faultOf catalogue ≡ 0 → Accepted catalogue
-unfolding rulesOf
 fault-accepted catalogue h =
     let f = fault-zero catalogue h in
     let r = reads-written 64 (catalogue .sizes) (catalogue .list) (f .rules-fit) in
     record {
-      some-feature = f .some-feature;
-      few-features = f .few-features;
+      features-count = (f .some-feature, f .few-features);
       sizes-fit = sizesFault-every (catalogue .sizes) (f .sizes-fit);
       list-fits = f .list-fits;
       rules = rulesRead 64 (catalogue .list);
       few-rules = r .few;
       well-formed = r .well-formed;
       is-written = sym (r .written-out);
-      read-back = refl;
     }
 
 accepted-fault : (catalogue : Catalogue) → Accepted catalogue → faultOf catalogue ≡ 0
@@ -101,8 +98,8 @@ accepted-fault catalogue a =
     faultless-zero
     catalogue
     (record {
-      some-feature = a .some-feature;
-      few-features = a .few-features;
+      some-feature = a .features-count .0;
+      few-features = a .features-count .1;
       sizes-fit = every-sizesFault (a .sizes-fit);
       list-fits = a .list-fits;
       rules-fit = rw (a .is-written) (written-faultless (catalogue .sizes) 64 (a .well-formed) (a .few-rules));
@@ -110,6 +107,12 @@ accepted-fault catalogue a =
 
 pub accepted-iff : (catalogue : Catalogue) → (faultOf catalogue ≡ 0) ↔ Accepted catalogue
 accepted-iff catalogue = (fault-accepted catalogue, accepted-fault catalogue)
+
+-- the rules that an accepted list is the writing-out of are what reading it gives, so no other rules have that list
+pub read-back : (catalogue : Catalogue) (a : Accepted catalogue) → rulesOf catalogue ≡ a .rules
+unfolding rulesOf
+read-back catalogue a =
+    rw (a .is-written) (written-reads (catalogue .sizes) 64 (a .well-formed) (a .few-rules))
 
 -- the features that rules name are those of the catalogue, at most 16
 pub fault-below : (catalogue : Catalogue) → faultOf catalogue ≡ 0 → FeaturesBelow 16 (rulesRead 64 (catalogue .list))

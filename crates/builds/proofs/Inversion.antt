@@ -2,15 +2,15 @@
 -- its condition fails; so a rule has no fault just where it has passed every test, and then lies in its list whole.
 use Prim.Native.Nat.{ℕ, zero, suc, _-_, _*_, _≤_}
 use mathlib.Core.Path.{_≡_, refl}
-use mathlib.Core.Bool.{Bool, true, false, not, and-eq-true-iff}
+use mathlib.Core.Bool.{Bool, true, false, not}
 use mathlib.Core.List.{List, []}
 use native.Mathlib.Omega.{arith}
 use lib.ListN.{length, drop}
-use lib.Dec.{leb}
-use borrow.Author.Tests.{ltb-false, le-ltb, leb-true, le-leb, not-false}
+use borrow.Author.Tests.{ltb-false, le-ltb, not-false}
 use Rattle.builds.specs.Checks.{when, orElse}
 use Rattle.builds.specs.Catalogue.{arity, rowCount, rowsBegin, width, featuresRead}
 use Rattle.builds.specs.Fault.{ruleFault, featuresFault, rowsFault}
+use Rattle.builds.proofs.OneTo.{one-to, to-one}
 use Rattle.builds.proofs.WholeRule.{WholeRule}
 
 pub orElse-zero : (a b : ℕ) → orElse a b ≡ 0 → (a ≡ 0) × (b ≡ 0)
@@ -44,14 +44,14 @@ ruleFault-passed sizes list h =
     let t4 = orElse-zero _ _ (t3 .1) in
     let t5 = orElse-zero _ _ (t4 .1) in
     let t6 = orElse-zero _ _ (t5 .1) in
-    let a = and-eq-true-iff (leb 1 (arity list)) (leb (arity list) 6) .0 (when-not-zero _ 14 (t2 .0)) in
+    let a = to-one 6 (arity list) (when-not-zero _ _ (t2 .0)) in
     record {
-      has-header = ltb-false (length list) 2 (when-zero _ 13 (t1 .0));
-      arity-low = leb-true 1 (arity list) (a .0);
-      arity-high = leb-true (arity list) 6 (a .1);
-      has-features = ltb-false (length list - 2) (arity list) (when-zero _ 13 (t3 .0));
+      has-header = ltb-false (length list) 2 (when-zero _ _ (t1 .0));
+      arity-low = a .0;
+      arity-high = a .1;
+      has-features = ltb-false (length list - 2) (arity list) (when-zero _ _ (t3 .0));
       features-fit = t4 .0;
-      has-rows = ltb-false (length list - rowsBegin list) (arity list * rowCount list) (when-zero _ 13 (t5 .0));
+      has-rows = ltb-false (length list - rowsBegin list) (arity list * rowCount list) (when-zero _ _ (t5 .0));
       rows-fit = t6 .0;
     }
 
@@ -60,8 +60,7 @@ unfolding ruleFault
 passed-ruleFault sizes list p =
     rw (
       le-ltb (length list) 2 (p .has-header),
-      le-leb 1 (arity list) (p .arity-low),
-      le-leb (arity list) 6 (p .arity-high),
+      one-to 6 (arity list) (p .arity-low, p .arity-high),
       le-ltb (length list - 2) (arity list) (p .has-features),
       p .features-fit,
       le-ltb (length list - rowsBegin list) (arity list * rowCount list) (p .has-rows),

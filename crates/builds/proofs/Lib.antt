@@ -5,12 +5,15 @@ pub mod ListWalks
 pub mod Widths
 pub mod WholeRule
 pub mod Alone
+pub mod OneTo
 pub mod Inversion
 pub mod Faultless
 pub mod PlacedWalks
 pub mod Starts
 pub mod AllStarts
 pub mod Format
+pub mod FaultMet
+pub mod Words
 pub mod Remarks
 pub mod RulesByFeature
 pub mod Options

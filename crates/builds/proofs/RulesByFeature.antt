@@ -15,7 +15,7 @@ use Rattle.builds.specs.Rule.{Rule, optionAt, satisfies, satisfiesAll, h
 use Rattle.builds.specs.Catalogue.{Catalogue, rulesOf}
 use Rattle.builds.specs.Fault.{faultOf}
 use Rattle.builds.proofs.Every.{every-head, every-tail, every-weaken}
-use Rattle.builds.proofs.Format.{accepted-iff}
+use Rattle.builds.proofs.Format.{accepted-iff, read-back}
 
 -- two builds, whole or not, that have the same options up to a feature
 abbrev pub AgreeTo : ℕ → List ℕ → List ℕ → Type 0
@@ -35,7 +35,7 @@ satisfies-agree : (j : ℕ) (build other : List ℕ) (rule : Rule) → AgreeTo j
 unfolding satisfies
 satisfies-agree j build other rule same h = rw (options-agree j build other (rule .features) same h)
 
-none-tested : (j : ℕ) (build : List ℕ) → passes [] j build ≡ true
+pub none-tested : (j : ℕ) (build : List ℕ) → passes [] j build ≡ true
 unfolding passes rulesAt satisfiesAll
 none-tested j build = refl
 
@@ -72,38 +72,39 @@ all-every build (rule ∷ rules) =
       λ e. both .1 (every-head e, later .1 (every-tail e)),
     )
 
+-- one more rule is passed at a feature that is not its highest, or where it is satisfied
+pub more-passed : (build : List ℕ) (rule : Rule) (rules : List Rule) (j : ℕ)
+    → (passes (rule ∷ rules) j build ≡ true) ↔ ((highest (rule .features) ≡ j → satisfies build rule ≡ true) × (passes rules j build ≡ true))
+more-passed build rule rules j = go (eqb (highest (rule .features)) j) refl
+  where
+    go : (tested : Bool) → eqb (highest (rule .features)) j ≡ tested
+        → (passes (rule ∷ rules) j build ≡ true) ↔ ((highest (rule .features) ≡ j → satisfies build rule ≡ true) × (passes rules j build ≡ true))
+    go true e =
+        let split = passes-more j build rule rules true e in
+        let both = and-eq-true-iff (satisfies build rule) (passes rules j build) in
+        let at = eqb-true (highest (rule .features)) j e in
+        (λ h. (λ k. both .0 (sym split ∙ h) .0, both .0 (sym split ∙ h) .1), λ h. split ∙ both .1 (h .0 at, h .1))
+    go false e =
+        let split = passes-more j build rule rules false e in
+        (λ h. (λ k. absurd (eqb-false (highest (rule .features)) j e k), sym split ∙ h), λ h. split ∙ h .1)
+
 -- every rule is tested at one of so many features
 abbrev pub TestedBelow : ℕ → List Rule → Type 0
 TestedBelow count = Every (λ (rule : Rule). highest (rule .features) < count)
 
 module _ (build : List ℕ) (count : ℕ) where
-  more-passed : (rule : Rule) (rules : List Rule) (j : ℕ)
-      → (passes (rule ∷ rules) j build ≡ true) ↔ ((highest (rule .features) ≡ j → satisfies build rule ≡ true) × (passes rules j build ≡ true))
-  more-passed rule rules j = go (eqb (highest (rule .features)) j) refl
-    where
-      go : (tested : Bool) → eqb (highest (rule .features)) j ≡ tested
-          → (passes (rule ∷ rules) j build ≡ true) ↔ ((highest (rule .features) ≡ j → satisfies build rule ≡ true) × (passes rules j build ≡ true))
-      go true e =
-          let split = passes-more j build rule rules true e in
-          let both = and-eq-true-iff (satisfies build rule) (passes rules j build) in
-          let at = eqb-true (highest (rule .features)) j e in
-          (λ h. (λ k. both .0 (sym split ∙ h) .0, both .0 (sym split ∙ h) .1), λ h. split ∙ both .1 (h .0 at, h .1))
-      go false e =
-          let split = passes-more j build rule rules false e in
-          (λ h. (λ k. absurd (eqb-false (highest (rule .features)) j e k), sym split ∙ h), λ h. split ∙ h .1)
-
   passed-every : {rules : List Rule} → TestedBelow count rules → ((j : ℕ) → j < count → passes rules j build ≡ true)
       → Every (λ (rule : Rule). satisfies build rule ≡ true) rules
   passed-every Every.none h = Every.none
   passed-every (Every.also {x = rule} {xs = rules} low lower) h =
       Every.also
-      (more-passed rule rules (highest (rule .features)) .0 (h (highest (rule .features)) low) .0 refl)
-      (passed-every lower (λ j l. more-passed rule rules j .0 (h j l) .1))
+      (more-passed build rule rules (highest (rule .features)) .0 (h (highest (rule .features)) low) .0 refl)
+      (passed-every lower (λ j l. more-passed build rule rules j .0 (h j l) .1))
 
   every-passed : {rules : List Rule} → Every (λ (rule : Rule). satisfies build rule ≡ true) rules
       → (j : ℕ) → passes rules j build ≡ true
   every-passed Every.none j = none-tested j build
-  every-passed (Every.also {x = rule} {xs = rules} h hs) j = more-passed rule rules j .1 (λ e. h, every-passed hs j)
+  every-passed (Every.also {x = rule} {xs = rules} h hs) j = more-passed build rule rules j .1 (λ e. h, every-passed hs j)
 
   pub rules-by-feature : {rules : List Rule} → TestedBelow count rules
       → ((j : ℕ) → j < count → passes rules j build ≡ true) ↔ Every (λ (rule : Rule). satisfies build rule ≡ true) rules
@@ -119,4 +120,5 @@ highest-known some (Every.also h hs) = omega (arith, highest-known some hs)
 pub tested-somewhere : (catalogue : Catalogue) → faultOf catalogue ≡ 0 → TestedBelow (length (catalogue .sizes)) (rulesOf catalogue)
 tested-somewhere catalogue h =
     let a = accepted-iff catalogue .0 h in
-    rw (a .read-back) (every-weaken (λ (rule : Rule) w. highest-known (a .some-feature) (w .known)) (a .well-formed))
+    rw (read-back catalogue a)
+    (every-weaken (λ (rule : Rule) w. highest-known (a .features-count .0) (w .known)) (a .well-formed))

@@ -7,16 +7,13 @@ use mathlib.Core.Logic.{_↔_}
 use mathlib.Core.Bool.{Bool, true}
 use mathlib.Core.List.{List}
 use lib.ListN.{length}
-use Rattle.builds.specs.Rule.{optionAt}
 use Rattle.builds.specs.Catalogue.{Catalogue}
-use Rattle.builds.specs.Build.{IsBuild, BuildWith}
+use Rattle.builds.specs.Build.{BuildWith}
 
 -- a value that is globally inverse consistent
 abbrev pub Gic : Catalogue → List ℕ → ℕ → ℕ → Type 0
 Gic catalogue choices i a = (build : List ℕ) × BuildWith catalogue choices i a build
 
--- the values that are left, `left`, are the closure
+-- the values that are left, `left`, are the closure; every solution is among them, for it is its own witness
 pub record GicClosure (catalogue : Catalogue) (choices : List ℕ) (left : ℕ → ℕ → Bool) : Type 0 where
   pub exactly : (i a : ℕ) → i < length (catalogue .sizes) → (left i a ≡ true) ↔ Gic catalogue choices i a
-  pub same-solutions : (build : List ℕ) → IsBuild catalogue choices build
-      → (i : ℕ) → i < length (catalogue .sizes) → left i (optionAt build i) ≡ true

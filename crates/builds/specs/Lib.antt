@@ -5,6 +5,7 @@ pub mod Rule
 pub mod Catalogue
 pub mod Fault
 pub mod Format
+pub mod FaultMet
 pub mod Build
 pub mod Gic
 pub mod ListedBuilds

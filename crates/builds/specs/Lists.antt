@@ -1,5 +1,5 @@
 -- Small things said of lists and numbers, none of them the paper's words.
-use Prim.Native.Nat.{ℕ, zero, suc, _+_}
+use Prim.Native.Nat.{ℕ, zero, suc, _+_, _≤_}
 use mathlib.Core.Bool.{Bool, true, false, _&&_, _||_}
 use mathlib.Core.List.{List, [], _∷_, _++_, foldr}
 use lib.ListN.{length, take, drop}
@@ -9,6 +9,10 @@ use lib.Dec.{eqb}
 pub data Every {A : Type 0} (P : A → Type 0) : List A → Type 0 where
   none : Every P []
   also : {x : A} {xs : List A} → P x → Every P xs → Every P (x ∷ xs)
+
+-- a number from 1 to the most that it may be
+abbrev pub OneTo : ℕ → ℕ → Type 0
+OneTo most n = (1 ≤ n) × (n ≤ most)
 
 -- a test of every number below a count
 unfoldable pub everyBelow : ℕ → (ℕ → Bool) → Bool

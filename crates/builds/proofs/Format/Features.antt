@@ -1,16 +1,19 @@
--- A rule's features: none is at fault just where all are known, all differ, and none stands among those seen before.
+-- A rule's features: none is at fault just where all are known, all differ, and none stands among those seen before. By
+-- the faults that are met, so that the order of the reader's tests is told in one place.
 use Prim.Native.Nat.{ℕ, _<_}
-use mathlib.Core.Path.{_≡_, refl, sym}
+use mathlib.Core.Path.{_≡_, refl, sym, _∙_}
 use mathlib.Core.Bool.{Bool, true, false, _||_, true≢false}
 use mathlib.Core.HLevel.{¬-prop}
 use mathlib.Core.List.{List, [], _∷_, _++_, List·Nodup, Pairwise·nil, Pairwise·cons}
+use native.Mathlib.Omega.{arith}
 use lib.Dec.{eqb}
-use borrow.Author.Tests.{ltb-true, lt-ltb, eqb-false, ne-eqb}
+use borrow.Author.Tests.{eqb-false, ne-eqb}
 use Rattle.builds.specs.Lists.{member, Every}
 use Rattle.builds.specs.Fault.{featuresFault}
-use Rattle.builds.proofs.Inversion.{orElse-zero, when-zero, when-not-zero}
+use Rattle.builds.specs.FaultMet.{InFeatures}
 use Rattle.builds.proofs.Every.{every-head, every-tail, every-weaken, every-both}
 use Rattle.builds.proofs.Entries.{every-member, every-of-members}
+use Rattle.builds.proofs.FaultMet.Features.{features-met, features-meet}
 
 or-false : (a b : Bool) → (a || b) ≡ false → (a ≡ false) × (b ≡ false)
 or-false true b h = absurd (true≢false h)
@@ -45,19 +48,26 @@ unfolding member
 none-seen known different =
     record { known = known; different = different; unseen = every-weaken (λ (f : ℕ) l. refl) known }
 
-pub features-read : (count : ℕ) (seen fs : List ℕ) → featuresFault count seen fs ≡ 0 → Features count seen fs
-unfolding featuresFault
-features-read count seen [] h = record { known = Every.none; different = Pairwise·nil; unseen = Every.none }
-features-read count seen (f ∷ fs) h =
-    let t1 = orElse-zero _ _ h in
-    let t2 = orElse-zero _ _ (t1 .1) in
-    let t3 = orElse-zero _ _ (t2 .1) in
-    let later = features-read count (seen ++ f ∷ []) fs (t3 .0) in
+-- no fault met; the number is a variable so that the clauses can be split
+met-fine : {count r : ℕ} {seen fs : List ℕ} → InFeatures count seen fs r → r ≡ 0 → Features count seen fs
+met-fine InFeatures.all-read e = record { known = Every.none; different = Pairwise·nil; unseen = Every.none }
+met-fine (InFeatures.not-in-the-catalogue h) e = absurd (omega arith)
+met-fine (InFeatures.named-twice h t) e = absurd (omega arith)
+met-fine (InFeatures.next-feature {f = f} {read = seen} h t met) e =
+    let later = met-fine met e in
     record {
-      known = Every.also (ltb-true f count (when-not-zero _ 15 (t1 .0))) (later .known);
+      known = Every.also h (later .known);
       different = Pairwise·cons (every-member (λ (g : ℕ). ¬-prop) (every-weaken (λ (g : ℕ) u. unseen-split seen f g u .1) (later .unseen))) (later .different);
-      unseen = Every.also (when-zero _ 16 (t2 .0)) (every-weaken (λ (g : ℕ) u. unseen-split seen f g u .0) (later .unseen));
+      unseen = Every.also t (every-weaken (λ (g : ℕ) u. unseen-split seen f g u .0) (later .unseen));
     }
+
+pub features-fine : {count : ℕ} {fs : List ℕ} → InFeatures count [] fs 0 → Features count [] fs
+features-fine met = met-fine met refl
+
+pub features-read : (count : ℕ) (seen fs : List ℕ) → featuresFault count seen fs ≡ 0 → Features count seen fs
+features-read count seen fs h =
+    let some = features-meet count seen fs in
+    met-fine (some .1) (sym (features-met (some .1)) ∙ h)
 
 features-join : (count : ℕ) (seen : List ℕ) {f : ℕ} {fs : List ℕ} → Features count seen (f ∷ fs)
     → Features count (seen ++ f ∷ []) fs
@@ -71,13 +81,11 @@ features-join count seen {f} {fs} p = go (p .different)
           unseen = every-weaken (λ (g : ℕ) u. unseen-join seen f g (u .0) (u .1)) (every-both (every-tail (p .unseen)) (every-of-members fs now));
         }
 
+fine-met : (count : ℕ) (seen fs : List ℕ) → Features count seen fs → InFeatures count seen fs 0
+fine-met count seen [] p = InFeatures.all-read
+fine-met count seen (f ∷ fs) p =
+    let later = fine-met count (seen ++ f ∷ []) fs (features-join count seen p) in
+    InFeatures.next-feature (every-head (p .known)) (every-head (p .unseen)) later
+
 pub features-written : (count : ℕ) (seen fs : List ℕ) → Features count seen fs → featuresFault count seen fs ≡ 0
-unfolding featuresFault
-features-written count seen [] p = refl
-features-written count seen (f ∷ fs) p =
-    rw (
-      lt-ltb f count (every-head (p .known)),
-      every-head (p .unseen),
-      features-written count (seen ++ f ∷ []) fs (features-join count seen p),
-    )
-    refl
+features-written count seen fs p = features-met (fine-met count seen fs p)

@@ -30,14 +30,13 @@ rule-read sizes list h =
     let body = drop (rowsBegin list) list in
     let space : length (featuresRead list) * rowCount list ≤ length body = rw n (omega (arith, length-drop (rowsBegin list) list, p)) in
     record {
-      arity-low = rw n (p .arity-low);
-      arity-high = rw n (p .arity-high);
+      arity = rw n (p .arity-low, p .arity-high);
       known = fs .known;
       different = fs .different;
       within = rw n at (rows-read sizes (featuresRead list) (rowCount list) body space (p .rows-fit));
     }
 
-drop-header : (k m : ℕ) (list : List ℕ) (n : ℕ) → drop (2 + n) (k ∷ m ∷ list) ≡ drop n list
+pub drop-header : (k m : ℕ) (list : List ℕ) (n : ℕ) → drop (2 + n) (k ∷ m ∷ list) ≡ drop n list
 drop-header k m list n = sym (drop-drop n 2 (k ∷ m ∷ list))
 
 front-written : (sizes list : List ℕ) → RulePassed sizes list → ruleWritten (ruleRead list) ++ drop (width list) list ≡ list
@@ -119,8 +118,8 @@ module _ (rule : Rule) (rest : List ℕ) where
     written-passed =
         record {
           has-header = omega (arith, written-length);
-          arity-low = rw arity-back (w .arity-low);
-          arity-high = rw arity-back (w .arity-high);
+          arity-low = rw arity-back (w .arity .0);
+          arity-high = rw arity-back (w .arity .1);
           has-features = rw arity-back (omega (arith, written-length));
           features-fit = rw features-back (features-written (length sizes) [] (rule .features) (none-seen (w .known) (w .different)));
           has-rows = rw (arity-back, count-back) (omega (arith, written-length));

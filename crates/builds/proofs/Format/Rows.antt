@@ -55,7 +55,7 @@ rows-read sizes fs zero list l h = Every.none
 rows-read sizes fs (suc m) list l h =
     let t = orElse-zero _ _ h in
     let left : length fs * m ≤ length (drop (length fs) list) = omega (arith, length-drop (length fs) list) in
-    Every.also (row-read sizes fs list (omega arith) (when-not-zero _ 17 (t .0)))
+    Every.also (row-read sizes fs list (omega arith) (when-not-zero _ _ (t .0)))
     (rows-read sizes fs m (drop (length fs) list) left (t .1))
 
 pub rows-written : (sizes fs : List ℕ) {rows : List (List ℕ)} → Every (Forall₂ (OptionOf sizes) fs) rows → (rest : List ℕ)
