@@ -12,7 +12,8 @@ use lib.Dec.{eqb, ltb, lit<}
 use lib.Bits.{bitAnd, bitOr, and-high, or-add-and, or-shr, or-mod, or-zero-r, or-lt}
 use lib.Count.{ones, onesIn, ones-cat}
 use lib.Pow.{pow-pos, pow-mono, pow-lt, pow-add, mod-pow-add, shl-shr}
-use Rattle.search.specs.Bits.{hasBit, withBit, bitsBelow}
+use Rattle.builds.specs.Lists.{countFrom, sum}
+use Rattle.search.specs.Bits.{hasBit, withBit, bitsSet}
 
 -- the digit of bit a, which is 0 or 1
 abbrev digit : ℕ → ℕ → ℕ
@@ -87,6 +88,15 @@ no-bit-above k mask a h l =
 
 -- ---- how many are set: those below k are the ones among the k lowest digits
 
+unfoldable bitsBelow : ℕ → ℕ → ℕ
+bitsBelow zero mask = 0
+bitsBelow (suc a) mask = cond (hasBit mask a) 1 0 + bitsBelow a mask
+
+-- counted from the top or from the bottom
+bits-set : (mask : ℕ) → bitsSet mask ≡ bitsBelow 16 mask
+unfolding bitsSet bitsBelow countFrom sum
+bits-set mask = omega arith
+
 bits-below : (k mask : ℕ) → bitsBelow k mask ≡ ones (mask % 2 ^ k)
 unfolding bitsBelow ones onesIn
 bits-below zero mask = rw mod-one refl
@@ -95,5 +105,5 @@ bits-below (suc k) mask =
     (ap (λ (x : ℕ). x + ones (mask % 2 ^ k))
     (digit-cases (λ (d : ℕ). cond (eqb d 1) 1 0 ≡ ones d) refl refl (digit mask k) (digit-small mask k)))
 
-pub bit-count : (mask : ℕ) → mask < 2 ^ 16 → bitsBelow 16 mask ≡ ones mask
-bit-count mask h = bits-below 16 mask ∙ ap ones (mod-eq-of-lt h)
+pub bit-count : (mask : ℕ) → mask < 2 ^ 16 → bitsSet mask ≡ ones mask
+bit-count mask h = bits-set mask ∙ bits-below 16 mask ∙ ap ones (mod-eq-of-lt h)

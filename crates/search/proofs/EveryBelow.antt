@@ -1,10 +1,11 @@
 -- A loop over the numbers below a count that leaves at the first one that fails a test: as long as none has failed, all
 -- numbers passed hold, one more with each turn; and where one fails, not all of them hold. A loop that passes them all
 -- keeps a flag instead, which falls at each one that fails.
-use Prim.Native.Nat.{ℕ, _+_, _<_}
+use Prim.Native.Nat.{ℕ, zero, suc, _+_, _<_}
 use mathlib.Core.Path.{_≡_, refl, sym, _∙_}
-use mathlib.Core.Bool.{Bool, true, false, _&&_, and-true, and-false, and-eq-true-iff}
+use mathlib.Core.Bool.{Bool, true, false, _&&_, true≢false, and-true, and-false, and-eq-true-iff}
 use native.Mathlib.Numerals.{add-one}
+use native.Mathlib.Omega.{arith}
 use Rattle.builds.specs.Lists.{everyBelow}
 use Rattle.search.proofs.FitsInWords.{every-below}
 
@@ -19,6 +20,17 @@ module _ (test : ℕ → Bool) where
       go : (all : Bool) → everyBelow n test ≡ all → all ≡ false
       go true e = sym (every-below test n e f l) ∙ fails
       go false e = refl
+
+  -- and where not all of them hold, one is found that fails
+  pub some-fails : (n : ℕ) → everyBelow n test ≡ false → (k : ℕ) × (k < n) × (test k ≡ false)
+  unfolding everyBelow
+  some-fails zero h = absurd (true≢false h)
+  some-fails (suc n) h = go (some-fails n) (test n) refl
+    where
+      go : (everyBelow n test ≡ false → (k : ℕ) × (k < n) × (test k ≡ false)) → (here : Bool) → test n ≡ here
+          → (k : ℕ) × (k < suc n) × (test k ≡ false)
+      go before false e = (n, omega arith, e)
+      go before true e = let found = before (rw (e, and-true) at h) in (found .0, omega (arith, found .1), found .2)
 
   pub all-passed : (f n : ℕ) → f ≡ n → everyBelow f test ≡ true → everyBelow n test ≡ true
   all-passed f n end before = rw (← end) before

@@ -15,7 +15,7 @@ use Rattle.builds.specs.Build.{Before}
 use Rattle.builds.proofs.Every.{EveryTwo}
 use Rattle.builds.proofs.Options.{Rising}
 use Rattle.builds.proofs.Entries.{every-entry}
-use Rattle.search.specs.Count.{Search, nothingTried, oneStep, orLater, andThen, searchEach, searchFrom}
+use Rattle.search.specs.Count.{Search, nothingTried, oneStep, orLater, searchEach, searchFrom}
 
 -- an option of some, placed at depth j, that passes; and what completes the trial from there
 pub data Each (test : ℕ → List ℕ → Bool) (Deeper : List ℕ → List ℕ → Type 0) (j : ℕ) (trial options : List ℕ) : List ℕ → Type 0 where
@@ -92,7 +92,8 @@ module _ (test : ℕ → List ℕ → Bool) (Deeper : List ℕ → List ℕ → 
         → test j (set trial j v) ≡ passed
         → Finds (Each test Deeper j trial options) trial j (later .found)
         → Finds (Each test Deeper j trial (v ∷ options)) trial j
-        (andThen (oneStep (cond passed (deeper (set trial j v)) nothingTried)) later .found)
+        (orLater (oneStep (cond passed (deeper (set trial j v)) nothingTried) .found)
+        (oneStep (cond passed (deeper (set trial j v)) nothingTried) .count) later .found)
     tried-finds v options rising later true e rest =
         passed-finds v options rising e _ later (deeper (set trial j v) .found) (finds (set trial j v)) rest
     tried-finds v options rising later false e rest =

@@ -1,13 +1,18 @@
 -- The written search, from its top theorems down.
+--   FiveRules, OneOutcome: a step does what the paper's five rules say, wherever number 20 lets the record through, and
+--     they allow nothing else
 --   ReadyJob: what a clinic sees when its job has ended
 --   FirstBuild: one pair's search finds the first build in dictionary order that has the option, or there is none
 --   CompletionsAreBuilds: what it searches are the builds with the option, the feature's own choice set aside
 --   JobSteps: a job is at its end after just K steps, and at work before
 --   JobResult: what masks and share hold then
+--   Misfit: a record fits the catalogue just where no clause of number 20 is met
 pub mod Bits
+pub mod Words
 pub mod NoBits
 pub mod FitsInWords
 pub mod EveryBelow
+pub mod Misfit
 pub mod Filled
 pub mod KeptBefore
 pub mod PlaceBounds
@@ -22,6 +27,14 @@ pub mod TrialFits
 pub mod ClinicFits
 pub mod RecordLengths
 pub mod StepFits
+pub mod StepByCase
+pub mod CandidateWords
+pub mod PassedInWords
+pub mod WentBack
+pub mod PairEnded
+pub mod FiveRules
+pub mod NearestDepth
+pub mod OneOutcome
 pub mod StepWrites
 pub mod SearchSteps
 pub mod TrialLength

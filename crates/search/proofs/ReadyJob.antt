@@ -134,4 +134,4 @@ module _ (catalogue : Catalogue) (fault : faultOf catalogue ≡ 0) (choices : Li
 
   -- what is shown is the GIC closure of the catalogue under the choices
   pub shown-is-gic : GicClosure catalogue choices (λ (i a : ℕ). hasBit (maskAt catalogue choices i) a)
-  shown-is-gic = record { exactly = left-exactly; same-solutions = build-left }
+  shown-is-gic = record { exactly = left-exactly }

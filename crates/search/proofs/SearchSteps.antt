@@ -17,7 +17,7 @@ use Rattle.search.specs.declared.State.the-variants.{AtWork}
 use Rattle.search.specs.Clinic.{Clinic, moved, withExample}
 use Rattle.search.specs.Candidates.{candidates, firstCandidate, firstAbove, chosenOtherwise}
 use Rattle.search.specs.Step.{Tried, goOn, build, exhausted, goOnIf, givenUp, tried, pairEnded, afterTried, stepAt, stepFrom, step}
-use Rattle.search.specs.Count.{Search, nothingTried, oneStep, orLater, andThen, searchEach, searchFrom}
+use Rattle.search.specs.Count.{Search, nothingTried, oneStep, orLater, searchEach, searchFrom}
 use Rattle.search.proofs.TakesSteps.{TakesSteps, WorkingOn, takes-times, takes-from, takes-join}
 use Rattle.search.proofs.CandidatesInOrder.{CandidatesInOrder, firstOf, candidates-in-turn, candidates-first}
 use Rattle.search.proofs.GivenUp.{PlacedBelow, placed-one-more, depthExhausted, given-up, placed-given-up}
@@ -63,7 +63,7 @@ module _ (catalogue : Catalogue) (i a : ℕ) (clinic : Clinic) where
       (afterTried sizes i a clinic (foundOr (sought .found) otherwise))
 
   follow-then : (sought later : Search) (start middle otherwise : Tried) → Follow sought start middle
-      → Follow later middle otherwise → Follow (andThen sought later) start otherwise
+      → Follow later middle otherwise → Follow (orLater (sought .found) (sought .count) later) start otherwise
   follow-then sought later start middle otherwise = go (sought .count) (sought .found)
     where
       go : (count : ℕ) (found : Option (List ℕ)) → Follow (record { count = count; found = found }) start middle

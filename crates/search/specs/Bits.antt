@@ -1,7 +1,9 @@
 -- Masks: bit a stands for option a.
-use Prim.Native.Nat.{ℕ, zero, suc, _+_, _/_, _%_, _^_}
+use Prim.Native.Nat.{ℕ, _+_, _/_, _%_, _^_}
 use mathlib.Core.Bool.{Bool, cond}
+use mathlib.Core.List.{map}
 use lib.Dec.{eqb}
+use Rattle.builds.specs.Lists.{countFrom, sum}
 
 abbrev pub hasBit : ℕ → ℕ → Bool
 hasBit mask a = eqb ((mask / 2 ^ a) % 2) 1
@@ -9,7 +11,6 @@ hasBit mask a = eqb ((mask / 2 ^ a) % 2) 1
 unfoldable pub withBit : ℕ → ℕ → ℕ
 withBit mask a = cond (hasBit mask a) mask (mask + 2 ^ a)
 
--- how many of the bits below a place are set
-unfoldable pub bitsBelow : ℕ → ℕ → ℕ
-bitsBelow zero mask = 0
-bitsBelow (suc a) mask = cond (hasBit mask a) 1 0 + bitsBelow a mask
+-- how many bits are set, of sixteen
+unfoldable pub bitsSet : ℕ → ℕ
+bitsSet mask = sum (map (λ (a : ℕ). cond (hasBit mask a) 1 0) (countFrom 0 16))

@@ -6,11 +6,11 @@ use mathlib.Core.List.{List, [], _∷_}
 use mathlib.Core.Option.{Option, none, some}
 use lib.ListN.{getD, set}
 use lib.Dec.{ltb, eqb}
-use Rattle.builds.specs.Catalogue.{optionsOf}
+use Rattle.builds.specs.Lists.{countFrom}
 
 unfoldable pub candidates : List ℕ → List ℕ → ℕ → ℕ → ℕ → List ℕ
 candidates sizes choices i a j = cond (eqb j i) (a ∷ [])
-    (cond (eqb (getD choices j 255) 255) (optionsOf (getD sizes j 0)) (getD choices j 255 ∷ []))
+    (cond (eqb (getD choices j 255) 255) (countFrom 0 (getD sizes j 0)) (getD choices j 255 ∷ []))
 
 unfoldable pub firstCandidate : List ℕ → List ℕ → ℕ → ℕ → ℕ → ℕ
 firstCandidate sizes choices i a j = getD (candidates sizes choices i a j) 0 0

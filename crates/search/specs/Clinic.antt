@@ -49,14 +49,14 @@ abbrev pub examplePlace : ℕ → ℕ → ℕ
 examplePlace i a = i * 256 + a * 16
 
 abbrev pub exampleIn : List ℕ → ℕ → ℕ → List ℕ
-exampleIn share i a = take 16 (drop (examplePlace i a) share)
+exampleIn share i a = take 16 (drop (i * 256 + a * 16) share)
 
 -- the example written, the bit set
 unfoldable pub withExample : ℕ → ℕ → List ℕ → Clinic → Clinic
 withExample i a example clinic =
     let masks = set (clinic .seat .masks) i (withBit (getD (clinic .seat .masks) i 0) a) in
     let seat = seatWith (clinic .seat .state) masks (clinic .seat .trial) (clinic .seat) in
-    record { seat = seat; share = put (clinic .share) (examplePlace i a) example }
+    record { seat = seat; share = put (clinic .share) (i * 256 + a * 16) example }
 
 -- another state and trial
 abbrev pub moved : State → List ℕ → Clinic → Clinic

@@ -6,8 +6,8 @@ use mathlib.Core.Bool.{Bool, cond}
 use mathlib.Core.Option.{Option, none, some}
 use mathlib.Core.List.{List, [], _∷_, _++_, map}
 use lib.ListN.{length, set}
-use Rattle.builds.specs.Lists.{sum}
-use Rattle.builds.specs.Catalogue.{Catalogue, rulesOf, optionsOf}
+use Rattle.builds.specs.Lists.{countFrom, sum}
+use Rattle.builds.specs.Catalogue.{Catalogue, rulesOf}
 use Rattle.builds.specs.Rule.{passes}
 use Rattle.search.specs.Clinic.{nothing16}
 use Rattle.search.specs.Candidates.{candidates, chosenOtherwise}
@@ -29,15 +29,12 @@ abbrev pub orLater : Option (List ℕ) → ℕ → Search → Search
 orLater (some trial) count later = record { count = count; found = some trial }
 orLater none count later = record { count = count + later .count; found = later .found }
 
-abbrev pub andThen : Search → Search → Search
-andThen search later = orLater (search .found) (search .count) later
-
 -- at depth j, candidate by candidate: each costs a step, and one that passes also what lies deeper
 unfoldable pub searchEach : (ℕ → List ℕ → Bool) → (List ℕ → Search) → ℕ → List ℕ → List ℕ → Search
 searchEach test deeper j trial [] = nothingTried
 searchEach test deeper j trial (v ∷ vs) =
-    andThen (oneStep (cond (test j (set trial j v)) (deeper (set trial j v)) nothingTried))
-    (searchEach test deeper j trial vs)
+    let this = oneStep (cond (test j (set trial j v)) (deeper (set trial j v)) nothingTried) in
+    orLater (this .found) (this .count) (searchEach test deeper j trial vs)
 
 -- from depth j on, with so many features still to be placed
 unfoldable pub searchFrom : (ℕ → List ℕ → Bool) → (ℕ → List ℕ) → ℕ → ℕ → List ℕ → Search
@@ -57,7 +54,7 @@ pairSearch catalogue choices i a = cond (chosenOtherwise choices i a) (oneStep n
 -- the pairs of a job: i rising, then a rising within i
 unfoldable pub pairsFrom : ℕ → List ℕ → List (ℕ × ℕ)
 pairsFrom i [] = []
-pairsFrom i (size ∷ sizes) = map (λ (a : ℕ). (i, a)) (optionsOf size) ++ pairsFrom (suc i) sizes
+pairsFrom i (size ∷ sizes) = map (λ (a : ℕ). (i, a)) (countFrom 0 size) ++ pairsFrom (suc i) sizes
 
 unfoldable pub pairCounts : Catalogue → List ℕ → List ℕ
 pairCounts catalogue choices = map (λ (p : ℕ × ℕ). pairSearch catalogue choices (p .0) (p .1) .count) (pairsFrom 0 (catalogue .sizes))

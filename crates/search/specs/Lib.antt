@@ -6,6 +6,8 @@ pub mod Clinic
 pub mod Candidates
 pub mod Step
 pub mod Count
+pub mod FiveRules
 pub mod RecordFits
+pub mod Misfit
 pub mod Trolley
 pub mod inner

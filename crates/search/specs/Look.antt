@@ -25,4 +25,4 @@ abbrev pub maskOf : Seat → ℕ → ℕ
 maskOf seat i = getD (seat .masks) i 0
 
 abbrev pub isLeft : Seat → ℕ → ℕ → Bool
-isLeft seat i a = hasBit (maskOf seat i) a
+isLeft seat i a = hasBit (getD (seat .masks) i 0) a

@@ -1,0 +1,48 @@
+-- What the definition of a step at a place comes to, case by case: rule 1 ends the pair; otherwise what comes of trying
+-- is followed, and that is a build, one depth more, or an option given up.
+use Prim.Native.Nat.{ℕ, _+_, _<_}
+use mathlib.Core.Path.{_≡_, refl}
+use mathlib.Core.Bool.{true, false}
+use mathlib.Core.List.{List}
+use native.Mathlib.Omega.{arith}
+use lib.ListN.{length, set}
+use borrow.Author.Tests.{eq-eqb, ne-eqb}
+use Rattle.builds.specs.Catalogue.{Catalogue, rulesOf}
+use Rattle.builds.specs.Rule.{passes}
+use Rattle.search.specs.declared.Place.{Place}
+use Rattle.search.specs.declared.State.the-variants.{AtWork}
+use Rattle.search.specs.Clinic.{Clinic}
+use Rattle.search.specs.Candidates.{firstCandidate, chosenOtherwise}
+use Rattle.search.specs.Step.{Tried, goOn, build, givenUp, tried, pairEnded, afterTried, stepAt, stepFrom, step}
+
+module _ (catalogue : Catalogue) (clinic : Clinic) (p : Place) (at-work : clinic .seat .state ≡ AtWork p) where
+  -- what comes of trying at the place
+  abbrev pub triedAt : Tried
+  triedAt = tried catalogue (clinic .seat .choices) (p .feature) (p .option) (p .depth) (p .next) (clinic .seat .trial)
+
+  pub ended : chosenOtherwise (clinic .seat .choices) (p .feature) (p .option) ≡ true
+      → step catalogue clinic ≡ pairEnded (catalogue .sizes) (p .feature) (p .option) clinic
+  unfolding step stepFrom stepAt
+  ended h = rw (at-work, h) refl
+
+  pub followed : chosenOtherwise (clinic .seat .choices) (p .feature) (p .option) ≡ false → (t : Tried) → triedAt ≡ t
+      → step catalogue clinic ≡ afterTried (catalogue .sizes) (p .feature) (p .option) clinic t
+  unfolding step stepFrom stepAt
+  followed h t e = rw (at-work, h, e) refl
+
+module _ (catalogue : Catalogue) (choices : List ℕ) (i a j v : ℕ) (trial : List ℕ) where
+  pub passed-last : passes (rulesOf catalogue) j (set trial j v) ≡ true → j + 1 ≡ length (catalogue .sizes)
+      → tried catalogue choices i a j v trial ≡ build (set trial j v)
+  unfolding tried
+  passed-last h last = rw (h, eq-eqb (j + 1) (length (catalogue .sizes)) last) refl
+
+  pub passed-on : passes (rulesOf catalogue) j (set trial j v) ≡ true → j + 1 < length (catalogue .sizes)
+      → tried catalogue choices i a j v trial
+      ≡ goOn (j + 1) (firstCandidate (catalogue .sizes) choices i a (j + 1)) (set trial j v)
+  unfolding tried
+  passed-on h more = rw (h, ne-eqb (j + 1) (length (catalogue .sizes)) (λ e. absurd (omega arith))) refl
+
+  pub failed : passes (rulesOf catalogue) j (set trial j v) ≡ false
+      → tried catalogue choices i a j v trial ≡ givenUp (catalogue .sizes) choices i a j v trial
+  unfolding tried
+  failed h = rw h refl

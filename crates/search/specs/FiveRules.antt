@@ -1,0 +1,90 @@
+-- The written search by its five rules: what one step makes of record and share at a place (i, a, j, v), each rule beside
+-- its sentence. That `step` does so wherever number 20 lets the record through is the law of proofs/FiveRules.antt; that
+-- they leave nothing else open to it, that of proofs/OneOutcome.antt.
+use Prim.Native.Nat.{ℕ, _+_, _-_, _*_, _≤_, _<_}
+use mathlib.Core.Path.{_≡_}
+use mathlib.Core.Logic.{_↔_, _⊎_}
+use mathlib.Core.Bool.{true}
+use mathlib.Core.List.{List, _++_}
+use lib.ListN.{length, getD, take, set, replicate}
+use Rattle.builds.specs.Lists.{Every, member, put}
+use Rattle.builds.specs.Rule.{Rule, satisfies}
+use Rattle.builds.specs.Catalogue.{Catalogue, rulesOf}
+use Rattle.search.specs.declared.State.{State}
+use Rattle.search.specs.declared.State.the-variants.{Ready, AtWork}
+use Rattle.search.specs.Bits.{hasBit}
+use Rattle.search.specs.Clinic.{Clinic}
+
+-- For one pair the candidates at feature j are: a alone if j = i; else the choice in force alone; else all options,
+-- rising.
+pub data Candidate (sizes choices : List ℕ) (i a : ℕ) : ℕ → ℕ → Type 0 where
+  own : Candidate sizes choices i a i a
+  chosen : {j v : ℕ} → (j ≡ i → ⊥) → getD choices j 255 ≡ v → (v ≡ 255 → ⊥) → Candidate sizes choices i a j v
+  unchosen : {j v : ℕ} → (j ≡ i → ⊥) → getD choices j 255 ≡ 255 → v < getD sizes j 0 → Candidate sizes choices i a j v
+
+abbrev pub Least : (ℕ → Type 0) → ℕ → Type 0
+Least P n = P n × ((other : ℕ) → P other → n ≤ other)
+
+-- a candidate at depth d greater than the option placed there, which need not be one itself
+abbrev pub Greater : List ℕ → List ℕ → ℕ → ℕ → List ℕ → ℕ → ℕ → Type 0
+Greater sizes choices i a placed d w = (getD placed d 255 < w) × Candidate sizes choices i a d w
+
+-- what is placed breaks no rule whose highest-numbered feature is j: one that it names, and none above it
+abbrev pub Passed : Catalogue → ℕ → List ℕ → Type 0
+Passed catalogue j placed = Every (λ (rule : Rule). member j (rule .features) ≡ true → Every (λ (f : ℕ). f ≤ j) (rule .features)
+    → satisfies placed rule ≡ true) (rulesOf catalogue)
+
+-- the pair after (i, a), i rising, then a rising within i, at depth 0 with the first candidate there; after the last,
+-- ready
+pub data NextPair (sizes choices : List ℕ) (i a : ℕ) : State → Type 0 where
+  next-option : {v : ℕ} → a + 1 < getD sizes i 0 → Least (Candidate sizes choices i (a + 1) 0) v
+      → NextPair sizes choices i a (AtWork (record { feature = i; option = a + 1; depth = 0; next = v }))
+  next-feature : {v : ℕ} → a + 1 ≡ getD sizes i 0 → i + 1 < length sizes → Least (Candidate sizes choices (i + 1) 0 0) v
+      → NextPair sizes choices i a (AtWork (record { feature = i + 1; option = 0; depth = 0; next = v }))
+  last-pair : a + 1 ≡ getD sizes i 0 → i + 1 ≡ length sizes → NextPair sizes choices i a Ready
+
+-- ending a pair and starting the next belong to the same step
+pub record PairEnds (sizes : List ℕ) (i a : ℕ) (before after : Clinic) : Type 0 where
+  pub next-pair : NextPair sizes (before .seat .choices) i a (after .seat .state)
+  pub nothing-placed : after .seat .trial ≡ replicate 16 255
+
+-- masks and share stay
+abbrev pub NoExample : Clinic → Clinic → Type 0
+NoExample before after = (after .seat .masks ≡ before .seat .masks) × (after .share ≡ before .share)
+
+pub record ExampleWritten (i a : ℕ) (build : List ℕ) (before after : Clinic) : Type 0 where
+  pub bit-set : (f b : ℕ) → (hasBit (getD (after .seat .masks) f 0) b ≡ true)
+      ↔ ((hasBit (getD (before .seat .masks) f 0) b ≡ true) ⊎ ((f ≡ i) × (b ≡ a)))
+  pub bytes-written : after .share ≡ put (before .share) (i * 256 + a * 16) build
+
+-- the pair goes on at depth j, with v next there: the options placed before j are kept, 255 stands from there on
+pub record GoesOn (i a j v : ℕ) (placed : List ℕ) (before after : Clinic) : Type 0 where
+  pub at-place : after .seat .state ≡ AtWork (record { feature = i; option = a; depth = j; next = v })
+  pub kept-before : after .seat .trial ≡ take j placed ++ replicate (16 - j) 255
+  pub no-example : NoExample before after
+
+-- Rules 3 to 5, where an option was placed at j.
+pub record Tries (catalogue : Catalogue) (i a j : ℕ) (choices placed : List ℕ) (before after : Clinic) : Type 0 where
+  -- 3. Passed and j is the last feature: the build is written as the example, bit a is set in mask i, the pair ends.
+  pub build-found : Passed catalogue j placed → j + 1 ≡ length (catalogue .sizes)
+      → PairEnds (catalogue .sizes) i a before after × ExampleWritten i a placed before after
+  -- 4. Passed otherwise: depth j+1, its first candidate next.
+  pub one-deeper : Passed catalogue j placed → j + 1 < length (catalogue .sizes)
+      → (w : ℕ) × Least (Candidate (catalogue .sizes) choices i a (j + 1)) w × GoesOn i a (j + 1) w placed before after
+  -- 5. Failed: the next greater candidate at j; if there is none, back to the nearest earlier depth that has one greater
+  -- than the option placed there.
+  pub next-or-back : (Passed catalogue j placed → ⊥) → (d w : ℕ) → d ≤ j → Least (Greater (catalogue .sizes) choices i a placed d) w
+      → ((e u : ℕ) → d < e → e ≤ j → Greater (catalogue .sizes) choices i a placed e u → ⊥) → GoesOn i a d w placed before after
+  -- If none has, the pair ends without an example.
+  pub none-greater : (Passed catalogue j placed → ⊥) → ((e u : ℕ) → e ≤ j → Greater (catalogue .sizes) choices i a placed e u → ⊥)
+      → PairEnds (catalogue .sizes) i a before after × NoExample before after
+
+pub record FiveRules (catalogue : Catalogue) (i a j v : ℕ) (before after : Clinic) : Type 0 where
+  -- 1. If feature i has a choice other than a, the pair ends without an example. Nothing is tried.
+  pub chosen-otherwise : (getD (before .seat .choices) i 255 ≡ 255 → ⊥) → (getD (before .seat .choices) i 255 ≡ a → ⊥)
+      → PairEnds (catalogue .sizes) i a before after × NoExample before after
+  -- 2. Otherwise v is placed at j and tested against each rule whose highest-numbered feature is j.
+  pub otherwise : ((getD (before .seat .choices) i 255 ≡ 255) ⊎ (getD (before .seat .choices) i 255 ≡ a))
+      → Tries catalogue i a j (before .seat .choices) (set (before .seat .trial) j v) before after
+  -- Under each of them the choices stay.
+  pub choices-stay : after .seat .choices ≡ before .seat .choices
