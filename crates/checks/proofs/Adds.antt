@@ -12,7 +12,8 @@ use Rattle.runs.specs.declared.Asking.{Asking}
 use Rattle.runs.specs.Room.{Room}
 use Rattle.runs.specs.DeskFits.{deskFits}
 use Rattle.runs.specs.Call.{asks, turns}
-use Rattle.runs.specs.RefusalTable.{openTable, openRefusal, rowsOf, refusal}
+use Rattle.runs.specs.RefusalTable.{openRefusal, rowsOf, refusal}
+use Rattle.runs.proofs.Tables.{openTable}
 
 -- the checks of a whole table are those of its rows up to some row, and then those after it
 first-append : (rows more : List ℕ) → first (rows ++ more) ≡ orElse (first rows) (first more)

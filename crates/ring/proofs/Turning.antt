@@ -3,7 +3,7 @@
 use Prim.Native.Nat.{ℕ, _+_, _<_, _≤_}
 use mathlib.Core.Path.{_≡_, sym, ap, _∙_}
 use mathlib.Core.Bool.{Bool, true, false}
-use mathlib.Core.List.{List}
+use mathlib.Core.List.{List, []}
 use mathlib.Core.Logic.{_⊎_, ⊎-elim}
 use mathlib.Core.Option.{none, some}
 use lib.ListN.{getD, set}
@@ -15,7 +15,8 @@ use Rattle.search.specs.Step.{step}
 use Rattle.runs.specs.Room.{Room, clinicAt, withClinic}
 use Rattle.runs.specs.Call.{turns}
 use Rattle.ring.specs.inner.Marks.{trueFrom}
-use Rattle.runs.specs.Perform.{turnsAnswer, done}
+use Rattle.runs.specs.Call.{answers}
+use Rattle.runs.specs.Perform.{done}
 use Rattle.runs.specs.Turn.{isAtWork, isSome, served, turnFor, turn, afterTurns, turnsMade}
 use Rattle.runs.proofs.Sound.{Sound, turn-sound}
 use Rattle.runs.proofs.Served.{FoundAtWork, served-found}
@@ -74,7 +75,7 @@ module _
         (λ (nobody : trueFrom 8 working (room .desk .next) ≡ none). nobody-left (now .so-far) (sym found-served ∙ nobody))
 
     pub turns-done : (w ≤ made) ⊎ (trueFrom 8 working (room .desk .next) ≡ none)
-        → record { answer = turnsAnswer made (isSome (trueFrom 8 working (room .desk .next))); room = room } ≡ done catalogue (turns w) start
+        → record { answer = answers 0 0 [] made (isSome (trueFrom 8 working (room .desk .next))); room = room } ≡ done catalogue (turns w) start
     unfolding done
     turns-done ended =
         let e = turns-ended ended in

@@ -16,8 +16,7 @@ use Rattle.builds.proofs.Inversion.{orElse-zero, when-zero, when-not-zero}
 use Rattle.search.specs.declared.Seat.{Seat}
 use Rattle.search.specs.Look.{isClosed, isAtWork, hasChoice, isLeft}
 use Rattle.runs.specs.declared.Asking.{Asking}
-use Rattle.runs.specs.declared.Asking.the-variants.{Enter, Leave, Choose, Relax, Read}
-use Rattle.runs.specs.declared.Reading.the-variants.{Options, Example}
+use Rattle.runs.specs.declared.Asking.the-variants.{Choose, Relax}
 use Rattle.runs.specs.Room.{Room, seatAt}
 use Rattle.runs.specs.DeskFits.{deskFits}
 use Rattle.runs.specs.Call.{Call, asks}
@@ -66,23 +65,6 @@ module _ (listed sizes : List ℕ) (seat : Seat) (i a : ℕ) where
         option-left = λ l. not-false (isLeft seat i a) (fails 36 (not (isLeft seat i a)) (t37 .0) l);
         some-choice = λ l. not-false (hasChoice seat i) (fails 37 (not (hasChoice seat i)) (t38 .0) l);
       }
-
--- every asking lists some rows, and names some feature and option
-pub record SeatRows (sizes : List ℕ) (seat : Seat) (asking : Asking) : Type 0 where
-  pub listed : List ℕ
-  pub feature : ℕ
-  pub option : ℕ
-  pub is-seat-rows : askedRows sizes seat asking ≡ seatRows listed sizes seat feature option
-
-pub asked-rows : (sizes : List ℕ) (seat : Seat) (asking : Asking) → SeatRows sizes seat asking
-asked-rows sizes seat Enter = record { listed = 32 ∷ []; feature = 0; option = 0; is-seat-rows = refl }
-asked-rows sizes seat Leave = record { listed = 31 ∷ []; feature = 0; option = 0; is-seat-rows = refl }
-asked-rows sizes seat (Choose i a) =
-    record { listed = 31 ∷ 33 ∷ 34 ∷ 35 ∷ 36 ∷ 37 ∷ []; feature = i; option = a; is-seat-rows = refl }
-asked-rows sizes seat (Relax i) = record { listed = 31 ∷ 33 ∷ 34 ∷ 38 ∷ []; feature = i; option = 0; is-seat-rows = refl }
-asked-rows sizes seat (Read (Options i)) = record { listed = 31 ∷ 33 ∷ 34 ∷ []; feature = i; option = 0; is-seat-rows = refl }
-asked-rows sizes seat (Read (Example i a)) =
-    record { listed = 31 ∷ 33 ∷ 34 ∷ 35 ∷ 37 ∷ []; feature = i; option = a; is-seat-rows = refl }
 
 -- the same of choose and relax, by the rows that they list
 module _ (sizes : List ℕ) (seat : Seat) where

@@ -3,6 +3,8 @@ use Prim.Native.Nat.{ℕ, zero, suc, _+_}
 use mathlib.Core.Path.{_≡_, refl, sym, ap, _∙_}
 use mathlib.Core.Bool.{cond}
 use mathlib.Core.Option.{Option, none, some}
+use native.Mathlib.Nat.{zero-add, suc-add}
+use native.Mathlib.Omega.{arith}
 use Rattle.builds.specs.Catalogue.{Catalogue}
 use Rattle.runs.specs.Room.{Room}
 use Rattle.runs.specs.Turn.{served, isSome, turnFor, turn, afterTurns, turnsMade}
@@ -31,3 +33,26 @@ module _ (catalogue : Catalogue) where
           ≡ afterTurns catalogue w (turn catalogue room)
       go none idle later = sym (rw (idle-turn room idle) (idle-turns w room idle))
       go (some c) found later = after-turns-add catalogue 1 (turnsMade catalogue w (turn catalogue room)) room ∙ later
+
+  pub idle-made : (w : ℕ) (room : Room) → served (room .desk) ≡ none → turnsMade catalogue w room ≡ 0
+  unfolding turnsMade
+  idle-made zero room idle = refl
+  idle-made (suc w) room idle = rw idle refl
+
+  -- the turns made add up
+  pub made-added : (u v : ℕ) (room : Room)
+      → turnsMade catalogue (u + v) room ≡ turnsMade catalogue u room + turnsMade catalogue v (afterTurns catalogue u room)
+  unfolding afterTurns turnsMade
+  made-added zero v room = rw (zero-add v, zero-add (turnsMade catalogue v room)) refl
+  made-added (suc u) v room = rw (suc-add u v) (go (served (room .desk)) refl (made-added u v (turn catalogue room)))
+    where
+      go : (found : Option ℕ) → served (room .desk) ≡ found
+          → turnsMade catalogue (u + v) (turn catalogue room)
+          ≡ turnsMade catalogue u (turn catalogue room) + turnsMade catalogue v (afterTurns catalogue u (turn catalogue room))
+          → cond (isSome found) (1 + turnsMade catalogue (u + v) (turn catalogue room)) 0
+          ≡ cond (isSome found) (1 + turnsMade catalogue u (turn catalogue room)) 0
+          + turnsMade catalogue v (afterTurns catalogue u (turn catalogue room))
+      go none idle later =
+          let same : afterTurns catalogue u (turn catalogue room) ≡ room = rw (idle-turn room idle) (idle-turns u room idle) in
+          sym (rw (same, idle-made v room idle) refl)
+      go (some c) found later = omega (arith, later)

@@ -12,8 +12,8 @@ use Rattle.runs.specs.declared.Asking.{Asking}
 use Rattle.runs.specs.declared.Asking.the-variants.{Read}
 use Rattle.runs.specs.declared.Reading.the-variants.{Options, Example}
 use Rattle.runs.specs.Room.{Room}
-use Rattle.runs.specs.Call.{asks, turns, Answer}
-use Rattle.runs.specs.Answers.{ChangesTo, ReadsAs, TurnsTo, exampleBegins}
+use Rattle.runs.specs.Call.{asks, turns}
+use Rattle.runs.specs.Answers.{ChangesTo, ReadsAs, TurnsTo, exampleBegins, BytesAre, BeginsAt, NumberIs}
 use Rattle.runs.specs.Perform.{Outcome, perform, opening}
 
 -- of a result that a contract speaks of alone, and of a result with the board at exit
@@ -66,18 +66,18 @@ module _ (catalogue : Catalogue) (room : Room) (c : ℕ) where
   options-settled i = one-reading (perform catalogue (asks c (Read (Options i))) room) room
 
   module _ (i a : ℕ) where
-    abbrev exampled : Answer
-    exampled = perform catalogue (asks c (Read (Example i a))) room .answer
+    abbrev exampled : Outcome
+    exampled = perform catalogue (asks c (Read (Example i a))) room
 
     -- the bytes that example hands out, where they stand, and the number
-    pub example-settled : Settled (λ (r : List ℕ). r ≡ exampled .bytes)
-    example-settled = one-value (exampled .bytes)
+    pub example-settled : Settled (BytesAre exampled)
+    example-settled = one-value (exampled .answer .bytes)
 
-    pub example-place-settled : (board : ℕ × ℕ) → Settled (λ (r : ℕ × ℕ). r ≡ exampleBegins board (exampled .number) c i a)
-    example-place-settled board = one-value (exampleBegins board (exampled .number) c i a)
+    pub example-place-settled : (board : ℕ × ℕ) → Settled (BeginsAt exampled board c i a)
+    example-place-settled board = one-value (exampleBegins board (exampled .answer .number) c i a)
 
-    pub example-number-settled : Settled (λ (r : ℕ). r ≡ exampled .number)
-    example-number-settled = one-value (exampled .number)
+    pub example-number-settled : Settled (NumberIs exampled)
+    example-number-settled = one-value (exampled .answer .number)
 
 pub turns-settled : (catalogue : Catalogue) (room : Room) (w : ℕ) → SettledWithBoard (TurnsTo (perform catalogue (turns w) room))
 turns-settled catalogue room w = one-turning (perform catalogue (turns w) room)

@@ -14,17 +14,13 @@ use Rattle.runs.specs.Room.{Room, clinicAt}
 use Rattle.runs.specs.Call.{Call, asks, turns, isOf}
 use Rattle.runs.specs.Turn.{served, is, turn, afterTurns, stepsGiven}
 use Rattle.runs.specs.Perform.{perform}
-use Rattle.runs.specs.Run.{given, taken}
+use Rattle.runs.specs.Run.{given}
 use Rattle.runs.proofs.Sound.{Sound, turn-sound}
 use Rattle.runs.proofs.ChecksPassed.{turns-accepted}
 use Rattle.runs.proofs.Performed.{perform-number}
 use Rattle.runs.proofs.OthersStay.{asking-stays, turn-steps, turn-stays}
 use Rattle.runs.proofs.TurnsAdded.{turns-performed}
 use Rattle.runs.proofs.IdleTurns.{idle-turn}
-
-no-turn-asked : (taken : Bool) → _≡_ {A = ℕ} (cond taken 0 0) 0
-no-turn-asked true = refl
-no-turn-asked false = refl
 
 module _ (catalogue : Catalogue) (fault : faultOf catalogue ≡ 0) (c : ℕ) where
   one-turn : (room : Room) → Sound catalogue room
@@ -57,8 +53,7 @@ module _ (catalogue : Catalogue) (fault : faultOf catalogue ≡ 0) (c : ℕ) whe
       → clinicAt (perform catalogue call room .room) c ≡ steps catalogue (given catalogue c call room) (clinicAt room c)
   unfolding stepsGiven steps
   others-step room sound (asks d asking) other =
-      rw (no-turn-asked (taken catalogue (asks d asking) room))
-      (asking-stays catalogue room (sound .eight) (sound .board-length) d asking c (eqb-false c d other) .0)
+      asking-stays catalogue room (sound .eight) (sound .board-length) d asking c (eqb-false c d other) .0
   others-step room sound (turns w) other =
       let taken = turns-accepted catalogue fault room sound w in
       rw (perform-number catalogue (turns w) room, turns-performed catalogue room w taken, taken) (turns-step w room sound)

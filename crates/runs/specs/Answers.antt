@@ -3,12 +3,13 @@ use Prim.Native.Nat.{ℕ, zero, suc, _+_, _*_}
 use mathlib.Core.Path.{_≡_}
 use mathlib.Core.Bool.{false}
 use mathlib.Core.List.{List, []}
+use Rattle.runs.specs.declared.Desk.{Desk}
 use Rattle.runs.specs.declared.answers.Changed.{Changed}
 use Rattle.runs.specs.declared.answers.Left.{Left}
 use Rattle.runs.specs.declared.answers.Turned.{Turned}
 use Rattle.runs.specs.Room.{Room}
-use Rattle.runs.specs.Call.{Answer, refused}
-use Rattle.runs.specs.Perform.{Outcome}
+use Rattle.runs.specs.Call.{Call, Answer, refused}
+use Rattle.runs.specs.Perform.{Outcome, perform, performed}
 
 abbrev pub leftAnswer : Left → Answer
 leftAnswer left =
@@ -39,3 +40,26 @@ TurnsTo outcome turned board = turnedOutcome turned board ≡ outcome
 abbrev pub exampleBegins : ℕ × ℕ → ℕ → ℕ → ℕ → ℕ → ℕ × ℕ
 exampleBegins board zero c i a = (board .0, (c * 4096 + i * 256 + a * 16) + board .1)
 exampleBegins board (suc number) c i a = board
+
+-- What the contracts of example say: the bytes, and where they begin; and of its second call, the number.
+abbrev pub BytesAre : Outcome → List ℕ → Type 0
+BytesAre outcome bytes = bytes ≡ outcome .answer .bytes
+
+abbrev pub BeginsAt : Outcome → ℕ × ℕ → ℕ → ℕ → ℕ → ℕ × ℕ → Type 0
+BeginsAt outcome board c i a begins = begins ≡ exampleBegins board (outcome .answer .number) c i a
+
+abbrev pub NumberIs : Outcome → ℕ → Type 0
+NumberIs outcome number = number ≡ outcome .answer .number
+
+-- What these say, field by field: a call is the promises' `perform`, on sizes and list, desk and board as they are lent, and the
+-- code's answer has its number and all else.
+pub record Lent : Type 0 where
+  pub on-what-is-lent : (sizes list : List ℕ) (desk : Desk) (board : List ℕ) (call : Call) → performed sizes list desk board call
+      ≡ perform (record { sizes = sizes; list = list }) call (record { desk = desk; board = board })
+  pub changed-is : (outcome : Outcome) (changed : Changed) (board : List ℕ) → ChangesTo outcome changed board
+      → (changed .number ≡ outcome .answer .number) × (changed .desk ≡ outcome .room .desk) × (board ≡ outcome .room .board)
+  pub left-is : (outcome : Outcome) (room : Room) (left : Left) → ReadsAs outcome room left
+      → (left .number ≡ outcome .answer .number) × (left .mask ≡ outcome .answer .mask) × (left .count ≡ outcome .answer .count)
+  pub turned-is : (outcome : Outcome) (turned : Turned) (board : List ℕ) → TurnsTo outcome turned board
+      → (turned .number ≡ outcome .answer .number) × (turned .made ≡ outcome .answer .made) × (turned .working ≡ outcome .answer .working)
+      × (turned .desk ≡ outcome .room .desk) × (board ≡ outcome .room .board)

@@ -24,6 +24,10 @@ pub record Answer : Type 0 where
   pub made : ℕ
   pub working : Bool
 
+abbrev pub answers : ℕ → ℕ → List ℕ → ℕ → Bool → Answer
+answers mask count bytes made working =
+    record { number = 0; mask = mask; count = count; bytes = bytes; made = made; working = working }
+
 abbrev pub refused : ℕ → Answer
 refused number = record { number = number; mask = 0; count = 0; bytes = []; made = 0; working = false }
 

@@ -4,6 +4,7 @@ pub mod DeskFits
 pub mod Call
 pub mod Turn
 pub mod RefusalTable
+pub mod PaperTable
 pub mod Perform
 pub mod Run
 pub mod Answers

@@ -1,11 +1,10 @@
 -- Each call as a definition of answer, desk and board for every input.
 use Prim.Native.Nat.{ℕ, zero, suc}
-use mathlib.Core.Bool.{Bool, false}
+use mathlib.Core.Bool.{false}
 use mathlib.Core.List.{List, []}
-use lib.ListN.{set}
+use lib.ListN.{getD, set, replicate}
 use Rattle.builds.specs.Catalogue.{Catalogue, catalogueOf}
-use Rattle.search.specs.Bits.{bitsBelow}
-use Rattle.search.specs.Look.{maskOf}
+use Rattle.search.specs.Bits.{bitsSet}
 use Rattle.search.specs.Clinic.{Clinic, nothing16, closedClinic, exampleIn}
 use Rattle.search.specs.Step.{posted}
 use Rattle.runs.specs.declared.Desk.{Desk}
@@ -13,8 +12,8 @@ use Rattle.runs.specs.declared.Asking.{Asking}
 use Rattle.runs.specs.declared.Asking.the-variants.{Enter, Leave, Choose, Relax, Read}
 use Rattle.runs.specs.declared.Reading.{Reading}
 use Rattle.runs.specs.declared.Reading.the-variants.{Options, Example}
-use Rattle.runs.specs.Room.{Room, roomOf, clinicAt, withClinic, freshDesk, emptyBoard}
-use Rattle.runs.specs.Call.{Call, asks, turns, Answer, refused}
+use Rattle.runs.specs.Room.{Room, roomOf, clinicAt, withClinic, freshDesk}
+use Rattle.runs.specs.Call.{Call, asks, turns, Answer, refused, answers}
 use Rattle.runs.specs.Turn.{served, isSome, afterTurns, turnsMade}
 use Rattle.runs.specs.RefusalTable.{openRefusal, refusal}
 
@@ -42,21 +41,12 @@ byKind sizes (reads reading) clinic = clinic
 abbrev pub clinicAfter : List ℕ → Asking → Clinic → Clinic
 clinicAfter sizes asking clinic = byKind sizes (kindOf asking (clinic .seat .choices)) clinic
 
-abbrev pub optionsAnswer : ℕ → Answer
-optionsAnswer mask = record { number = 0; mask = mask; count = bitsBelow 16 mask; bytes = []; made = 0; working = false }
-
-abbrev pub exampleAnswer : List ℕ → Answer
-exampleAnswer bytes = record { number = 0; mask = 0; count = 0; bytes = bytes; made = 0; working = false }
-
-abbrev pub turnsAnswer : ℕ → Bool → Answer
-turnsAnswer made working = record { number = 0; mask = 0; count = 0; bytes = []; made = made; working = working }
-
 -- what an accepted asking answers, by its kind; only a ready seat is read
 abbrev pub answerBy : Kind → Clinic → Answer
 answerBy (posts choices) clinic = refused 0
 answerBy leaves clinic = refused 0
-answerBy (reads (Options i)) clinic = optionsAnswer (maskOf (clinic .seat) i)
-answerBy (reads (Example i a)) clinic = exampleAnswer (exampleIn (clinic .share) i a)
+answerBy (reads (Options i)) clinic = let mask = getD (clinic .seat .masks) i 0 in answers mask (bitsSet mask) [] 0 false
+answerBy (reads (Example i a)) clinic = answers 0 0 (exampleIn (clinic .share) i a) 0 false
 
 -- a call's answer, with desk and board as it leaves them
 pub record Outcome : Type 0 where
@@ -70,7 +60,7 @@ done catalogue (asks c asking) room =
     record { answer = answerBy kind own; room = withClinic c (room .desk .next) (byKind (catalogue .sizes) kind own) room }
 done catalogue (turns w) room =
     let after = afterTurns catalogue w room in
-    record { answer = turnsAnswer (turnsMade catalogue w room) (isSome (served (after .desk))); room = after }
+    record { answer = answers 0 0 [] (turnsMade catalogue w room) (isSome (served (after .desk))); room = after }
 
 -- a refusal changes neither desk nor board
 abbrev pub unless : ℕ → Room → Outcome → Outcome
@@ -87,4 +77,4 @@ performed sizes list desk board call = perform (catalogueOf sizes list) call (ro
 -- Open takes no desk: a refused open hands back a fresh one, and the board as it came.
 unfoldable pub opening : Catalogue → List ℕ → Outcome
 opening catalogue board = unless (openRefusal catalogue board) (record { desk = freshDesk; board = board })
-    (record { answer = refused 0; room = record { desk = freshDesk; board = emptyBoard } })
+    (record { answer = refused 0; room = record { desk = freshDesk; board = replicate 32768 255 } })

@@ -20,11 +20,8 @@ use Rattle.runs.specs.DeskFits.{deskFits}
 use Rattle.runs.specs.Call.{Call, asks, turns}
 
 -- open makes checks 1 and 10 to 18 and nothing more
-abbrev pub openTable : Catalogue → List ℕ → List ℕ
-openTable catalogue board = when (not (eqb (length board) 32768)) 1 ∷ faultOf catalogue ∷ []
-
 unfoldable pub openRefusal : Catalogue → List ℕ → ℕ
-openRefusal catalogue board = first (openTable catalogue board)
+openRefusal catalogue board = first (when (not (eqb (length board) 32768)) 1 ∷ faultOf catalogue ∷ [])
 
 -- a row gives its number where it is listed and its condition holds
 abbrev pub row : List ℕ → ℕ → Bool → ℕ
@@ -51,9 +48,6 @@ abbrev pub rowsOf : List ℕ → Call → Desk → List ℕ
 rowsOf sizes (asks c asking) desk = when (ltb 7 c) 30 ∷ askedRows sizes (seatAt desk c) asking
 rowsOf sizes (turns w) desk = []
 
-abbrev pub table : Catalogue → Call → Room → List ℕ
-table catalogue call room = when (not (eqb (length (room .board)) 32768)) 1 ∷ faultOf catalogue
-    ∷ when (not (deskFits catalogue (room .desk))) 20 ∷ rowsOf (catalogue .sizes) call (room .desk)
-
 unfoldable pub refusal : Catalogue → Call → Room → ℕ
-refusal catalogue call room = first (table catalogue call room)
+refusal catalogue call room = first (when (not (eqb (length (room .board)) 32768)) 1 ∷ faultOf catalogue
+    ∷ when (not (deskFits catalogue (room .desk))) 20 ∷ rowsOf (catalogue .sizes) call (room .desk))

@@ -15,7 +15,7 @@ seatAfter c = (c + 1) % 8
 -- the first seat at work among so many from c upward around the ring
 unfoldable pub atWorkFrom : ℕ → Desk → ℕ → Option ℕ
 atWorkFrom zero desk c = none
-atWorkFrom (suc n) desk c = cond (isAtWork (seatAt desk c .state)) (some c) (atWorkFrom n desk (seatAfter c))
+atWorkFrom (suc n) desk c = cond (isAtWork (seatAt desk c .state)) (some c) (atWorkFrom n desk ((c + 1) % 8))
 
 abbrev pub served : Desk → Option ℕ
 served desk = atWorkFrom 8 desk (desk .next)
@@ -31,7 +31,7 @@ is c (some d) = eqb c d
 -- one turn: the seat found makes one step, and next is the seat after it
 abbrev pub turnFor : Catalogue → Room → Option ℕ → Room
 turnFor catalogue room none = room
-turnFor catalogue room (some c) = withClinic c (seatAfter c) (step catalogue (clinicAt room c)) room
+turnFor catalogue room (some c) = withClinic c ((c + 1) % 8) (step catalogue (clinicAt room c)) room
 
 unfoldable pub turn : Catalogue → Room → Room
 turn catalogue room = turnFor catalogue room (served (room .desk))
