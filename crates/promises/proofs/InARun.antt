@@ -23,8 +23,9 @@ use Rattle.search.proofs.PairSteps.{same-again}
 use Rattle.search.proofs.StepWrites.{Blank, Shows, shows-on, blank-or-shows}
 use Rattle.search.proofs.ReadyJob as ready-job
 use Rattle.runs.specs.Room.{clinicAt}
-use Rattle.promises.specs.Moment.{moment}
-use Rattle.promises.specs.InARun.{EveryRun}
+use Rattle.runs.specs.Call.{Call}
+use Rattle.promises.specs.Moment.{moment, Opened}
+use Rattle.promises.specs.InARun.{InARun}
 use Rattle.promises.proofs.SoundMoments.{opened-faultless, sound-moment}
 use Rattle.promises.proofs.AtEveryMoment.{Invariant, at-every-moment}
 use Rattle.promises.proofs.OptionsLeft.{mask-answered}
@@ -106,7 +107,8 @@ module _ (catalogue : Catalogue) (fault : faultOf catalogue ≡ 0) where
     always-blank clinic reached (inl is-blank) = is-blank
     always-blank clinic reached (inr shows) = absurd (never-shows clinic reached shows)
 
-pub every-run : EveryRun
+pub every-run : (catalogue : Catalogue) (board : List ℕ) → Opened catalogue board → (calls : List Call) (c : ℕ) → c < 8
+    → InARun catalogue (moment catalogue board calls) c
 every-run catalogue board opened calls c seat-below =
     let clinic : Clinic = clinicAt (moment catalogue board calls) c in
     let fault : faultOf catalogue ≡ 0 = opened-faultless catalogue board opened in

@@ -2,18 +2,19 @@
 -- under the choices in force, where the search has found what there is to find; and in a sound room the options and
 -- example calls for a ready seat are answered out of its masks and share.
 use Prim.Native.Nat.{ℕ, zero, suc, _<_}
-use mathlib.Core.Path.{_≡_, refl, ap, _∙_}
+use mathlib.Core.Path.{_≡_, refl, sym, ap, _∙_}
 use mathlib.Core.Logic.{_↔_}
 use mathlib.Core.Bool.{Bool, true, false, not}
 use mathlib.Core.List.{List, [], _∷_}
 use native.Mathlib.Omega.{arith}
-use lib.ListN.{length, getD}
+use lib.ListN.{length, getD, replicate}
 use borrow.Author.Tests.{lt-ltb, le-ltb}
 use Rattle.builds.specs.Catalogue.{Catalogue, sizeOf}
-use Rattle.builds.specs.Checks.{when, first}
+use Rattle.builds.specs.Checks.{when, first as first-number}
 use Rattle.builds.specs.Lists.{member}
 use Rattle.builds.specs.Fault.{faultOf}
 use Rattle.builds.specs.Rule.{optionAt}
+use Rattle.builds.specs.Build.{FirstWith, padded}
 use Rattle.builds.specs.Gic.{Gic}
 use Rattle.search.specs.declared.State.the-variants.{Ready}
 use Rattle.search.specs.Bits.{hasBit}
@@ -25,20 +26,20 @@ use Rattle.search.proofs.ReadyJob as ready-job
 use Rattle.runs.specs.declared.Asking.the-variants.{Read}
 use Rattle.runs.specs.declared.Reading.the-variants.{Options, Example}
 use Rattle.runs.specs.Room.{Room, shareAt, clinicAt}
-use Rattle.runs.specs.Call.{Call, asks, refused, Answer}
+use Rattle.runs.specs.Call.{asks}
 use Rattle.runs.specs.RefusalTable.{refusal}
-use Rattle.runs.specs.Perform.{Outcome, optionsAnswer, exampleAnswer, done, perform, opening}
+use Rattle.runs.specs.Perform.{Outcome, done, perform, opening}
 use Rattle.runs.proofs.Sound.{Sound}
 use Rattle.runs.proofs.ChecksPassed.{checks-passed}
-use Rattle.runs.proofs.Performed.{perform-accepted, perform-refused}
+use Rattle.runs.proofs.Performed.{perform-number, perform-accepted}
 use Rattle.promises.specs.Moment.{moment, Opened, seatIn}
-use Rattle.promises.specs.OptionsLeft.{Shown, OptionsLeft, GloballyConsistent}
+use Rattle.promises.specs.OptionsLeft.{isShown, Seen, OptionsLeft}
 use Rattle.promises.proofs.SoundMoments.{opened-faultless, sound-moment}
 use Rattle.promises.proofs.RefusedOpening.{never-ready}
 use Rattle.promises.proofs.KeptChoices.{kept-fit}
 use Rattle.promises.proofs.Reached.{Ended, mask-at-end, ended-at}
 
-last-row : (left : Bool) → first (when (not left) 37 ∷ []) ≡ when (not left) 37
+last-row : (left : Bool) → first-number (when (not left) 37 ∷ []) ≡ when (not left) 37
 last-row true = refl
 last-row false = refl
 
@@ -96,70 +97,63 @@ module _
       example-is : (a : ℕ) → exampleIn (shareAt (room .board) c) i a ≡ ready-job.exampleAt catalogue choices i a
       example-is a = ap (λ (clinic : Clinic). exampleIn (clinic .share) i a) (end .is-ended)
 
-      shown : Shown catalogue room c i
-      unfolding done
-      shown = record {
-        mask = ready-job.maskAt catalogue choices i;
-        options-answer =
-            ap (λ (o : Outcome). o .answer) (perform-accepted catalogue (asks c (Read (Options i))) room options-accepted)
-            ∙ ap optionsAnswer mask-is;
-        left-exactly = λ a. ready-job.left-exactly catalogue fault choices fit i a feature;
-        first-beside = λ a set.
-            let least = ready-job.first-beside catalogue fault choices fit i a set in
-            let build = least .1 .one-of-them in
-            let option : a < sizeOf catalogue i = rw (build .contains) at (build .is-build .within i feature) in
-            let left : isLeft (seatIn room c) i a ≡ true = rw mask-is set in
-            let answered : perform catalogue (asks c (Read (Example i a))) room .answer ≡ exampleAnswer (exampleIn (shareAt (room .board) c) i a) =
-            ap (λ (o : Outcome). o .answer) (perform-accepted catalogue (asks c (Read (Example i a))) room (example-number a option true left)) in
-            (least .0, least .1, answered ∙ ap exampleAnswer (example-is a ∙ least .2));
-        none-beside = λ a option clear.
-            let not-left : isLeft (seatIn room c) i a ≡ false = rw mask-is (not-set _ clear) in
-            let number : refusal catalogue (asks c (Read (Example i a))) room ≡ 37 = example-number a option false not-left in
-            let answered : perform catalogue (asks c (Read (Example i a))) room .answer ≡ refused (refusal catalogue (asks c (Read (Example i a))) room) =
-            ap (λ (o : Outcome). o .answer)
-            (perform-refused catalogue (asks c (Read (Example i a))) room (λ (e : refusal catalogue (asks c (Read (Example i a))) room ≡ 0). omega arith)) in (
-              answered ∙ ap refused number,
-              example-is a
-                  ∙ ready-job.none-beside catalogue fault choices fit i a (omega (arith, few-features catalogue fault))
-                  (omega (arith, size-within catalogue fault i feature)) clear,
-            );
-      }
+      -- the bits of the mask that the options call answers
+      exactly : (a : ℕ) → (isShown catalogue room c i a ≡ true) ↔ Gic catalogue choices i a
+      exactly a = rw (mask-answered, mask-is) (ready-job.left-exactly catalogue fault choices fit i a feature)
 
-pub options-left : OptionsLeft
-options-left catalogue board calls c seat-below ready i feature = go (opening catalogue board .answer .number) refl
-  where
-    go : (r : ℕ) → opening catalogue board .answer .number ≡ r → Shown catalogue (moment catalogue board calls) c i
-    go zero opened =
-        let room : Room = moment catalogue board calls in
-        let fault : faultOf catalogue ≡ 0 = opened-faultless catalogue board opened in
-        shown catalogue fault room (sound-moment catalogue board opened calls) c seat-below ready i feature
-        (ended-at catalogue board opened calls c seat-below ready)
-    go (suc r) refusal-is =
-        absurd (never-ready catalogue board (λ (opened : Opened catalogue board). omega (arith, opened, refusal-is)) calls c ready)
+      at-end : (a : ℕ) → isShown catalogue room c i a ≡ hasBit (ready-job.maskAt catalogue choices i) a
+      at-end a = ap (λ (mask : ℕ). hasBit mask a) (mask-answered ∙ mask-is)
+
+      first : (a : ℕ) → isShown catalogue room c i a ≡ true → (build : List ℕ) × FirstWith catalogue choices i a build
+          × (perform catalogue (asks c (Read (Example i a))) room .answer .bytes ≡ padded build)
+      unfolding done
+      first a set =
+          let bit : hasBit (ready-job.maskAt catalogue choices i) a ≡ true = sym (at-end a) ∙ set in
+          let least = ready-job.first-beside catalogue fault choices fit i a bit in
+          let build = least .1 .one-of-them in
+          let option : a < sizeOf catalogue i = rw (build .contains) at (build .is-build .within i feature) in
+          let left : isLeft (seatIn room c) i a ≡ true = rw mask-is bit in
+          let answered : perform catalogue (asks c (Read (Example i a))) room .answer .bytes ≡ exampleIn (shareAt (room .board) c) i a =
+          ap (λ (o : Outcome). o .answer .bytes) (perform-accepted catalogue (asks c (Read (Example i a))) room (example-number a option true left)) in
+          (least .0, least .1, answered ∙ example-is a ∙ least .2)
+
+      nothing : (a : ℕ) → a < sizeOf catalogue i → (isShown catalogue room c i a ≡ true → ⊥)
+          → (perform catalogue (asks c (Read (Example i a))) room .answer .number ≡ 37)
+          × (exampleIn (shareAt (room .board) c) i a ≡ replicate 16 255)
+      nothing a option clear =
+          let no-bit : hasBit (ready-job.maskAt catalogue choices i) a ≡ true → ⊥ = λ bit. clear (at-end a ∙ bit) in
+          let not-left : isLeft (seatIn room c) i a ≡ false = rw mask-is (not-set _ no-bit) in (
+            perform-number catalogue (asks c (Read (Example i a))) room ∙ example-number a option false not-left,
+            example-is a
+                ∙ ready-job.none-beside catalogue fault choices fit i a (omega (arith, few-features catalogue fault))
+                (omega (arith, size-within catalogue fault i feature)) no-bit,
+          )
 
 module _
     (catalogue : Catalogue)
-    (board : List ℕ)
-    (calls : List Call)
+    (fault : faultOf catalogue ≡ 0)
+    (room : Room)
+    (sound : Sound catalogue room)
     (c : ℕ)
     (seat-below : c < 8)
-    (ready : seatIn (moment catalogue board calls) c .state ≡ Ready)
+    (ready : seatIn room c .state ≡ Ready)
+    (end : Ended catalogue (clinicAt room c))
   where
-    abbrev here : Room
-    here = moment catalogue board calls
+    seen : Seen catalogue room c
+    seen = record {
+      left-exactly = record {
+        exactly = λ i a feature. exactly catalogue fault room sound c seat-below ready i feature end a;
+      };
+      first-beside = λ i a feature. first catalogue fault room sound c seat-below ready i feature end a;
+      none-beside = λ i a feature. nothing catalogue fault room sound c seat-below ready i feature end a;
+    }
 
-    gic-exactly : (i a : ℕ) → i < length (catalogue .sizes)
-        → (hasBit (perform catalogue (asks c (Read (Options i))) here .answer .mask) a ≡ true) ↔ Gic catalogue (seatIn here c .choices) i a
-    gic-exactly i a feature =
-        let seen = options-left catalogue board calls c seat-below ready i feature in
-        let answered : perform catalogue (asks c (Read (Options i))) here .answer .mask ≡ seen .mask =
-        ap (λ (answer : Answer). answer .mask) (seen .options-answer) in
-        rw answered (seen .left-exactly a)
-
-pub globally-consistent : GloballyConsistent
-globally-consistent catalogue board calls c seat-below ready = record {
-  exactly = gic-exactly catalogue board calls c seat-below ready;
-  same-solutions = λ build is-build i feature.
-      gic-exactly catalogue board calls c seat-below ready i (optionAt build i) feature .1
-      (build, record { is-build = is-build; contains = refl });
-}
+pub options-left : OptionsLeft
+options-left catalogue board calls c seat-below ready = go (opening catalogue board .answer .number) refl
+  where
+    go : (r : ℕ) → opening catalogue board .answer .number ≡ r → Seen catalogue (moment catalogue board calls) c
+    go zero opened =
+        seen catalogue (opened-faultless catalogue board opened) (moment catalogue board calls)
+        (sound-moment catalogue board opened calls) c seat-below ready (ended-at catalogue board opened calls c seat-below ready)
+    go (suc r) refusal-is =
+        absurd (never-ready catalogue board (λ (opened : Opened catalogue board). omega (arith, opened, refusal-is)) calls c ready)

@@ -19,20 +19,20 @@ use Rattle.runs.specs.Room.{Room, clinicAt}
 use Rattle.runs.specs.Call.{Call, asks, turns, isOf}
 use Rattle.runs.specs.Turn.{isAtWork, served, is, turn, afterTurns, seatAfter}
 use Rattle.runs.specs.Perform.{perform}
-use Rattle.runs.specs.Run.{job, afterCalls, turnsAsked}
+use Rattle.runs.specs.Run.{afterCalls, turnsAsked}
 use Rattle.runs.proofs.Sound.{Sound, turn-sound}
 use Rattle.runs.proofs.SoundRuns.{call-sound}
 use Rattle.runs.proofs.ChecksPassed.{turns-accepted}
 use Rattle.runs.proofs.OthersStay.{asking-stays, turn-next}
 use Rattle.runs.proofs.TurnsAdded.{turns-performed}
 use Rattle.runs.proofs.RingAhead.{ahead, full-round, served-ahead}
-use Rattle.promises.specs.SearchState.{Stands}
-use Rattle.promises.proofs.Standing.{in-the-search, turn-stands}
+use Rattle.promises.specs.Jobs.{After}
+use Rattle.promises.proofs.StepsMade.{turn-made}
 
 -- seat c, so many turns asked for after a job of K steps was posted for it
 pub record Waited (catalogue : Catalogue) (start : Clinic) (K c asked : ℕ) (room : Room) : Type 0 where
   pub given : ℕ
-  pub stands : Stands catalogue (clinicAt room c) (job start given)
+  pub here : After catalogue start (clinicAt room c) K given
   pub in-pace : given < K → asked + ahead (room .desk .next) c ≤ 8 * given + 7
 
 module _
@@ -55,7 +55,7 @@ module _
     turn-waited : (asked : ℕ) (room : Room) → Sound catalogue room → WaitedFor asked room → WaitedFor (asked + 1) (turn catalogue room)
     turn-waited asked room sound waited = record {
       given = waited .given + cond (is c (served (room .desk))) 1 0;
-      stands = turn-stands catalogue fault c room sound (job start (waited .given)) (waited .stands);
+      here = turn-made catalogue start K takes fault c (waited .given) room sound (waited .here);
       in-pace = λ (l : waited .given + cond (is c (served (room .desk))) 1 0 < K). pace l;
     }
       where
@@ -76,7 +76,7 @@ module _
             ≤ 8 * (waited .given + cond (is c (served (room .desk))) 1 0) + 7
         pace l =
             let few : waited .given < K = omega arith in
-            let work = still-at-work (clinicAt room c) (waited .given) (in-the-search (waited .stands)) few in
+            let work = still-at-work (clinicAt room c) (waited .given) (waited .here .is-after) few in
             let found = served-ahead (room .desk) c below work (sound .next-below) in
             rw (found .1) (by-seat (found .0) (found .1) (found .2) (waited .in-pace few) (eqb c (found .0)) refl)
 
@@ -100,7 +100,7 @@ module _
         let stays = asking-stays catalogue room (sound .eight) (sound .board-length) d asking c (eqb-false c d other) in
         record {
           given = waited .given;
-          stands = rw (stays .0) (waited .stands);
+          here = rw (stays .0) (waited .here);
           in-pace = λ (l : waited .given < K). rw (stays .1, add-zero asked) (waited .in-pace l);
         }
 

@@ -14,7 +14,8 @@ use Rattle.search.specs.declared.State.the-variants.{Closed, Ready}
 use Rattle.search.specs.Clinic.{closedSeat, noSeat}
 use Rattle.runs.specs.Room.{Room, freshDesk}
 use Rattle.runs.specs.Call.{Call}
-use Rattle.runs.specs.RefusalTable.{table, refusal, openRefusal}
+use Rattle.runs.specs.RefusalTable.{refusal, openRefusal}
+use Rattle.runs.proofs.Tables.{table}
 use Rattle.runs.specs.Perform.{Outcome, perform, opening}
 use Rattle.runs.specs.Run.{afterCalls}
 use Rattle.runs.proofs.Performed.{perform-number, perform-refused, opening-number, opening-refused}
@@ -60,12 +61,6 @@ module _ (catalogue : Catalogue) where
     room-stays calls =
         rw (opening-refused catalogue board some-number)
         (refused-calls calls (record { desk = freshDesk; board = board }) some-number)
-
-    pub every-call-refused : (calls : List Call) (call : Call)
-        → perform catalogue call (moment catalogue board calls) .answer .number ≡ opening catalogue board .answer .number
-    every-call-refused calls call =
-        rw (room-stays calls, perform-number, opening-number)
-        (same-number call (record { desk = freshDesk; board = board }) some-number)
 
     pub every-seat-closed : (calls : List Call) (c : ℕ) → seatIn (moment catalogue board calls) c .state ≡ Closed
     every-seat-closed calls c = rw (room-stays calls) (closed-in 8 c)

@@ -10,8 +10,7 @@ use Rattle.builds.specs.Build.{IsBuild}
 use Rattle.search.specs.declared.State.the-variants.{Ready}
 use Rattle.search.specs.Clinic.{nothing16, noneLeft, emptyShare}
 use Rattle.runs.specs.Room.{Room, shareAt}
-use Rattle.runs.specs.Call.{Call}
-use Rattle.promises.specs.Moment.{moment, Opened, seatIn}
+use Rattle.promises.specs.Moment.{seatIn}
 use Rattle.promises.specs.OptionsLeft.{isShown}
 
 pub record InARun (catalogue : Catalogue) (room : Room) (c : ℕ) : Type 0 where
@@ -24,7 +23,3 @@ pub record InARun (catalogue : Catalogue) (room : Room) (c : ℕ) : Type 0 where
   -- if it has none, no option anywhere, whether the seat is ready or not: neither in the masks nor on the board
   pub none-left : ((build : List ℕ) → IsBuild catalogue nothing16 build → ⊥)
       → (seatIn room c .masks ≡ noneLeft) × (shareAt (room .board) c ≡ emptyShare)
-
-abbrev pub EveryRun : Type 0
-EveryRun = (catalogue : Catalogue) (board : List ℕ) → Opened catalogue board → (calls : List Call) (c : ℕ) → c < 8
-    → InARun catalogue (moment catalogue board calls) c

@@ -1,12 +1,14 @@
 -- The letter's three demands and the paper's sentences on a run, one file each. A reader starts here.
 pub mod Moment
+pub mod Openings
 pub mod Refusals
+pub mod Possible
 pub mod OptionsLeft
-pub mod Waiting
-pub mod SearchState
+pub mod Jobs
 pub mod TwoRuns
 pub mod InARun
-pub mod LastJob
-pub mod Frame
-pub mod Posting
-pub mod TurnsAnswered
+pub mod Throughout
+pub mod Whole
+pub mod Askings
+pub mod Turns
+pub mod Words

@@ -1,0 +1,68 @@
+-- What a seat's askings leave of its clinic, on any desk and board. "Choose: sets one choice. Relax: drops one choice. All
+-- three empty the masks, fill the share with 255 and post a job at pair (0, 0)"; the seat that enters has no choice. "Leave:
+-- an open seat, ready or at work, becomes closed." Options and example answer what stands in record and share, and change
+-- nothing.
+use Prim.Native.Nat.{ℕ, _+_, _*_, _<_}
+use mathlib.Core.Path.{_≡_}
+use mathlib.Core.Bool.{false, cond}
+use mathlib.Core.List.{List, [], map}
+use lib.ListN.{getD, take, drop, set, replicate}
+use Rattle.builds.specs.Lists.{countFrom, sum}
+use Rattle.builds.specs.Catalogue.{Catalogue}
+use Rattle.search.specs.declared.State.{State}
+use Rattle.search.specs.declared.State.the-variants.{Closed, AtWork}
+use Rattle.search.specs.Bits.{hasBit}
+use Rattle.search.specs.Clinic.{Clinic}
+use Rattle.runs.specs.declared.Asking.{Asking}
+use Rattle.runs.specs.declared.Asking.the-variants.{Enter, Leave, Choose, Relax, Read}
+use Rattle.runs.specs.declared.Reading.{Reading}
+use Rattle.runs.specs.declared.Reading.the-variants.{Options, Example}
+use Rattle.runs.specs.Room.{Room, clinicAt}
+use Rattle.runs.specs.Call.{asks}
+use Rattle.runs.specs.Perform.{perform}
+use Rattle.promises.specs.Moment.{seatIn}
+use Rattle.promises.specs.Whole.{Whole}
+
+-- nothing but a state and choices: masks empty, nothing placed, a share full of 255
+pub record Fresh (state : State) (choices : List ℕ) (clinic : Clinic) : Type 0 where
+  pub state-is : clinic .seat .state ≡ state
+  pub choices-are : clinic .seat .choices ≡ choices
+  pub masks-empty : clinic .seat .masks ≡ replicate 16 0
+  pub nothing-placed : clinic .seat .trial ≡ replicate 16 255
+  pub share-filled : clinic .share ≡ replicate 4096 255
+
+-- a closed seat has no choices, empty masks and a share full of 255
+abbrev pub Blank : Clinic → Type 0
+Blank = Fresh Closed (replicate 16 255)
+
+-- a job under these choices at pair (0, 0), depth 0; there option 0 alone is a candidate, whatever is chosen
+abbrev pub Posted : List ℕ → Clinic → Type 0
+Posted = Fresh (AtWork (record { feature = 0; option = 0; depth = 0; next = 0 }))
+
+-- an asking of seat c that is accepted leaves its clinic so
+abbrev pub Leaves : Catalogue → Asking → Room → ℕ → (Clinic → Type 0) → Type 0
+Leaves catalogue asking room c So = perform catalogue (asks c asking) room .answer .number ≡ 0
+    → So (clinicAt (perform catalogue (asks c asking) room .room) c)
+
+pub record Askings (catalogue : Catalogue) (room : Room) (c : ℕ) : Type 0 where
+  pub entered : Leaves catalogue Enter room c (Posted (replicate 16 255))
+  pub chosen : (i a : ℕ) → Leaves catalogue (Choose i a) room c (Posted (set (seatIn room c .choices) i a))
+  pub relaxed : (i : ℕ) → Leaves catalogue (Relax i) room c (Posted (set (seatIn room c .choices) i 255))
+  pub closed : Leaves catalogue Leave room c Blank
+  -- options left: the mask of one feature and how many bits are set in it; example: the sixteen bytes as they stand
+  pub options : (i : ℕ) → perform catalogue (asks c (Read (Options i))) room .answer .number ≡ 0
+      → let mask = getD (seatIn room c .masks) i 0 in let count = sum (map (λ (a : ℕ). cond (hasBit mask a) 1 0) (countFrom 0 16)) in
+      perform catalogue (asks c (Read (Options i))) room .answer
+      ≡ record { number = 0; mask = mask; count = count; bytes = []; made = 0; working = false }
+  pub example : (i a : ℕ) → perform catalogue (asks c (Read (Example i a))) room .answer .number ≡ 0
+      → let bytes = take 16 (drop (c * 4096 + i * 256 + a * 16) (room .board)) in
+      perform catalogue (asks c (Read (Example i a))) room .answer
+      ≡ record { number = 0; mask = 0; count = 0; bytes = bytes; made = 0; working = false }
+  pub reading-stays : (reading : Reading) → perform catalogue (asks c (Read reading)) room .room ≡ room
+  -- no call made for a seat writes outside that seat's share, or moves another's record or next
+  pub others-stay : (asking : Asking) (d : ℕ) → d < 8 → (d ≡ c → ⊥)
+      → (clinicAt (perform catalogue (asks c asking) room .room) d ≡ clinicAt room d)
+      × (perform catalogue (asks c asking) room .room .desk .next ≡ room .desk .next)
+
+abbrev pub EveryAsking : Type 0
+EveryAsking = (catalogue : Catalogue) (room : Room) → Whole room → (c : ℕ) → Askings catalogue room c

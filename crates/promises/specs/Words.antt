@@ -1,0 +1,39 @@
+-- The small words that stand in many statements, each said once without itself, in the library's words.
+use Prim.Native.Nat.{ℕ, suc, _+_, _*_, _/_, _%_, _^_, _≤_}
+use mathlib.Core.Path.{_≡_}
+use mathlib.Core.Logic.{_↔_}
+use mathlib.Core.Bool.{true, false}
+use mathlib.Core.List.{List, [], _∷_, _++_, map, List·Memᴰ}
+use lib.ListN.{length, getD, take, drop}
+use Rattle.builds.specs.Lists.{OneTo, countFrom, sum, put}
+use Rattle.builds.specs.Rule.{Rule, optionAt, satisfies}
+use Rattle.search.specs.declared.Seat.{Seat}
+use Rattle.search.specs.declared.Place.{Place}
+use Rattle.search.specs.declared.State.{State}
+use Rattle.search.specs.declared.State.the-variants.{AtWork}
+use Rattle.search.specs.Bits.{hasBit}
+use Rattle.search.specs.Look.{isAtWork, isLeft}
+use Rattle.search.specs.Clinic.{noSeat}
+use Rattle.runs.specs.declared.Asking.{Asking}
+use Rattle.runs.specs.Room.{Room, clinicAt}
+use Rattle.runs.specs.Call.{asks, turns, isOf}
+use Rattle.runs.specs.Run.{turnsAsked}
+
+pub record Words : Type 0 where
+  -- a build satisfies a rule when its options at the rule's features, in the rule's order, are one of the rows
+  pub satisfied : (build : List ℕ) (rule : Rule)
+      → (satisfies build rule ≡ true) ↔ List·Memᴰ (map (optionAt build) (rule .features)) (rule .rows)
+  -- seat c owns the 4,096 bytes from c × 4,096
+  pub own : (room : Room) (c : ℕ)
+      → clinicAt room c ≡ record { seat = getD (room .desk .seats) c noSeat; share = take 4096 (drop (c * 4096) (room .board)) }
+  -- bit a for option a
+  pub bit : (mask a : ℕ) → (hasBit mask a ≡ true) ↔ (mask / 2 ^ a % 2 ≡ 1)
+  pub left : (seat : Seat) (i a : ℕ) → isLeft seat i a ≡ hasBit (getD (seat .masks) i 0) a
+  pub working : (state : State) → (isAtWork state ≡ true) ↔ ((p : Place) × (state ≡ AtWork p))
+  -- a clinic's calls are those that name its seat
+  pub own-calls : (c d : ℕ) (asking : Asking) (w : ℕ) → ((isOf c (asks d asking) ≡ true) ↔ (c ≡ d)) × (isOf c (turns w) ≡ false)
+  pub asked : (w d : ℕ) (asking : Asking) → (turnsAsked (turns w) ≡ w) × (turnsAsked (asks d asking) ≡ 0)
+  pub one-to : (most n : ℕ) → OneTo most n ↔ ((1 ≤ n) × (n ≤ most))
+  pub counting : (start count : ℕ) → (countFrom start 0 ≡ []) × (countFrom start (suc count) ≡ start ∷ countFrom (suc start) count)
+  pub adding : (x : ℕ) (xs : List ℕ) → (sum [] ≡ 0) × (sum (x ∷ xs) ≡ x + sum xs)
+  pub writing : (bytes new : List ℕ) (n : ℕ) → put bytes n new ≡ take n bytes ++ (new ++ drop (n + length new) bytes)
