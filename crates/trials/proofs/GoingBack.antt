@@ -1,0 +1,131 @@
+-- Rule 5 on the trolley: the next greater candidate, back to an earlier depth, and none left.
+use Prim.Native.Nat.{ℕ, zero, suc, _≤_, _<_}
+use mathlib.Core.Path.{_≡_, refl}
+use mathlib.Core.Logic.{inl}
+use mathlib.Core.Bool.{false≢true}
+use mathlib.Core.List.{List, _∷_}
+use native.Mathlib.Omega.{arith}
+use lib.ListN.{replicate}
+use lib.Dec.{lit<, lit≤}
+use Rattle.builds.specs.Lists.{none, also}
+use Rattle.search.specs.declared.Seat.{Seat}
+use Rattle.search.specs.declared.State.the-variants.{AtWork}
+use Rattle.search.specs.Clinic.{closedSeat, nothing16}
+use Rattle.search.specs.Step.{step}
+use Rattle.search.specs.FiveRules.{Candidate, Greater, Passed}
+use Rattle.search.specs.Trolley.{trolley, lastChosen}
+use Rattle.runs.specs.Call.{turns}
+use Rattle.runs.specs.Perform.{perform}
+use Rattle.runs.proofs.Computing.{computing}
+use Rattle.promises.specs.Turns.{EveryTurns}
+use Rattle.promises.proofs.Turns.{every-turns as proved-every-turns}
+use Rattle.trials.proofs.Desks.{room-of}
+use Rattle.trials.proofs.Places.{at-place, searching, before, by-rules, own-alone, all-options, to-next-option}
+use Rattle.trials.proofs.Rules.{first-of, rest-of}
+
+-- ---- 0 and 0 are placed and rule A is broken: 1 is next at the same depth
+
+abbrev broken : Seat
+broken = searching (at-place 0 0 1 0) nothing16 (0 ∷ replicate 15 255)
+
+abbrev placed-00 : List ℕ
+placed-00 = 0 ∷ 0 ∷ replicate 14 255
+
+passes-broken : perform trolley (turns 0) (room-of broken closedSeat 0) .answer .number ≡ 0
+unfolding room-of computing
+passes-broken = refl
+
+fails-00 : Passed trolley 1 placed-00 → ⊥
+unfolding computing
+fails-00 passed = false≢true (first-of passed refl (also (lit≤ tt) (also (lit≤ tt) none)))
+
+next-greater : EveryTurns → (step trolley (before broken) .seat .state ≡ AtWork (at-place 0 0 1 1))
+    × (step trolley (before broken) .share ≡ before broken .share)
+unfolding room-of trolley
+next-greater demand =
+    let rules = by-rules demand trolley broken (refl, refl, refl) passes-broken (at-place 0 0 1 0) refl in
+    let one : Candidate (trolley .sizes) nothing16 0 0 1 1 =
+    Candidate.unchosen (λ (e : _≡_ {A = ℕ} 1 0). omega (arith, e)) refl (lit< tt) in
+    let goes = rules .otherwise (inl refl) .next-or-back fails-00 1 1 (lit≤ tt) ((lit< tt, one), λ (w : ℕ) g. g .0)
+    (λ (e u : ℕ) l l₂ g. omega (arith, l, l₂)) in
+    (goes .at-place, goes .no-example .1)
+
+-- ---- 0, 1 and 0 are placed for pair (2, 0) and rule B is broken: nothing greater at depth 2, 2 at depth 1
+
+abbrev dead-end : Seat
+dead-end = searching (at-place 2 0 2 0) nothing16 (0 ∷ 1 ∷ replicate 14 255)
+
+abbrev placed-010 : List ℕ
+placed-010 = 0 ∷ 1 ∷ 0 ∷ replicate 13 255
+
+passes-dead-end : perform trolley (turns 0) (room-of dead-end closedSeat 0) .answer .number ≡ 0
+unfolding room-of computing
+passes-dead-end = refl
+
+fails-010 : Passed trolley 2 placed-010 → ⊥
+unfolding computing
+fails-010 passed = false≢true (first-of (rest-of passed) refl (also (lit≤ tt) (also (lit≤ tt) none)))
+
+none-at-2 : (sizes : List ℕ) (e u : ℕ) → 1 < e → e ≤ 2 → Greater sizes nothing16 2 0 placed-010 e u → ⊥
+none-at-2 sizes zero u l l₂ g = omega (arith, l)
+none-at-2 sizes (suc zero) u l l₂ g = omega (arith, l)
+none-at-2 sizes (suc (suc zero)) u l l₂ g = let same = own-alone (g .1) refl in omega (arith, g .0, same)
+none-at-2 sizes (suc (suc (suc e))) u l l₂ g = omega (arith, l₂)
+
+back : EveryTurns → (step trolley (before dead-end) .seat .state ≡ AtWork (at-place 2 0 1 2))
+    × (step trolley (before dead-end) .seat .trial ≡ 0 ∷ replicate 15 255)
+unfolding room-of trolley
+back demand =
+    let rules = by-rules demand trolley dead-end (refl, refl, refl) passes-dead-end (at-place 2 0 2 0) refl in
+    let two : Candidate (trolley .sizes) nothing16 2 0 1 2 =
+    Candidate.unchosen (λ (e : _≡_ {A = ℕ} 1 2). omega (arith, e)) refl (lit< tt) in
+    let goes = rules .otherwise (inl refl) .next-or-back fails-010 1 2 (lit≤ tt) ((lit< tt, two), λ (w : ℕ) g. g .0)
+    (none-at-2 (trolley .sizes)) in
+    (goes .at-place, goes .kept-before)
+
+-- ---- 0 and 2 are placed for pair (0, 0) under a choice, rule A is broken, and no depth has a greater one: the pair ends
+
+abbrev exhausted : Seat
+exhausted = searching (at-place 0 0 1 2) lastChosen (0 ∷ replicate 15 255)
+
+abbrev placed-02 : List ℕ
+placed-02 = 0 ∷ 2 ∷ replicate 14 255
+
+passes-exhausted : perform trolley (turns 0) (room-of exhausted closedSeat 0) .answer .number ≡ 0
+unfolding room-of computing
+passes-exhausted = refl
+
+fails-02 : Passed trolley 1 placed-02 → ⊥
+unfolding computing
+fails-02 passed = false≢true (first-of passed refl (also (lit≤ tt) (also (lit≤ tt) none)))
+
+none-left : (e u : ℕ) → e ≤ 1 → Greater (trolley .sizes) lastChosen 0 0 placed-02 e u → ⊥
+unfolding trolley
+none-left zero u l g = let same = own-alone (g .1) refl in omega (arith, g .0, same)
+none-left (suc zero) u l g =
+    let few : u < 3 = all-options (g .1) (λ (e : _≡_ {A = ℕ} 1 0). omega (arith, e)) refl in
+    let more : 2 < u = g .0 in
+    omega (arith, few, more)
+none-left (suc (suc e)) u l g = omega (arith, l)
+
+ends : EveryTurns → (step trolley (before exhausted) .seat .state ≡ AtWork (at-place 0 1 0 1))
+    × (step trolley (before exhausted) .seat .masks ≡ replicate 16 0)
+unfolding room-of trolley
+ends demand =
+    let rules = by-rules demand trolley exhausted (refl, refl, refl) passes-exhausted (at-place 0 0 1 2) refl in
+    let over = rules .otherwise (inl refl) .none-greater fails-02 none-left in
+    (to-next-option (lit< tt) (over .0 .next-pair), over .1 .0)
+
+-- ---- and so
+
+pub next-greater-tried : (step trolley (before broken) .seat .state ≡ AtWork (at-place 0 0 1 1))
+    × (step trolley (before broken) .share ≡ before broken .share)
+next-greater-tried = next-greater proved-every-turns
+
+pub back-to-depth-1 : (step trolley (before dead-end) .seat .state ≡ AtWork (at-place 2 0 1 2))
+    × (step trolley (before dead-end) .seat .trial ≡ 0 ∷ replicate 15 255)
+back-to-depth-1 = back proved-every-turns
+
+pub pair-without-example : (step trolley (before exhausted) .seat .state ≡ AtWork (at-place 0 1 0 1))
+    × (step trolley (before exhausted) .seat .masks ≡ replicate 16 0)
+pair-without-example = ends proved-every-turns
