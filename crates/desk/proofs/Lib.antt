@@ -1,2 +1,3 @@
--- What the calls cite.
+-- What the calls cite, and what their contracts are.
 pub mod Placed
+pub mod Contracts

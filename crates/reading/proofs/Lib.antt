@@ -1,2 +1,2 @@
--- What the calls that read a seat cite.
-pub mod Readings
+-- What the calls that read a seat cite, and what their contracts are.
+pub mod Contracts

@@ -7,7 +7,7 @@ ghost use mathlib.Core.Path.{_≡_};
 ghost use Rattle.runs.specs.declared.Asking.the-variants.{Read};
 ghost use Rattle.runs.specs.declared.Reading.the-variants.{Options, Example};
 ghost use Rattle.runs.specs.Call.{asks};
-ghost use Rattle.runs.specs.Answers.{ReadsAs, exampleBegins};
+ghost use Rattle.runs.specs.Answers.{ReadsAs, BytesAre, BeginsAt, NumberIs};
 ghost use Rattle.runs.specs.Perform.{performed};
 ghost use Rattle.runs.specs.Room.{roomOf};
 
@@ -45,12 +45,12 @@ pub fn example<'a>(
     i: usize,
     a: usize,
 ) -> &'a [u8]
-    ensures bytes { λ r. ⌜ now r
-        ≡ performed (now (sizes .entry)) (now (rules .entry)) desk (now (board .entry))
-        (asks c (Read (Example i a))) .answer .bytes ⌝ }
-    ensures place { λ r. ⌜ r .ptr ≡ exampleBegins (board .entry .ptr)
-        (performed (now (sizes .entry)) (now (rules .entry)) desk (now (board .entry))
-        (asks c (Read (Example i a))) .answer .number) c i a ⌝ }
+    ensures bytes { λ r. ⌜ BytesAre
+        (performed (now (sizes .entry)) (now (rules .entry)) desk (now (board .entry)) (asks c (Read (Example i a))))
+        (now r) ⌝ }
+    ensures place { λ r. ⌜ BeginsAt
+        (performed (now (sizes .entry)) (now (rules .entry)) desk (now (board .entry)) (asks c (Read (Example i a))))
+        (board .entry .ptr) c i a (r .ptr) ⌝ }
 {
     let number = example_number(desk, board, sizes, rules, c, i, a);
     if number != 0 {
@@ -71,9 +71,8 @@ pub fn example_number(
     i: usize,
     a: usize,
 ) -> u8
-    ensures { λ r. ⌜ r
-        ≡ performed (now (sizes .entry)) (now (rules .entry)) desk (now (board .entry))
-        (asks c (Read (Example i a))) .answer .number ⌝ }
+    ensures { λ r. ⌜ NumberIs
+        (performed (now (sizes .entry)) (now (rules .entry)) desk (now (board .entry)) (asks c (Read (Example i a)))) r ⌝ }
 {
     let asking = Asking::Read(Reading::Example {
         feature: i,

@@ -16,7 +16,7 @@ use Rattle.runs.proofs.Performed.{perform-number, perform-accepted}
 use Rattle.runs.proofs.AcceptedCalls.{AcceptedAsking, accepted, passed}
 use Rattle.runs.proofs.OneSeat.{refused-call}
 use Rattle.runs.proofs.NamedBounds.{feature-bounds}
-use Rattle.reading.proofs.Readings.{example-on-board}
+use Rattle.runs.proofs.ExampleOnBoard.{example-on-board}
 use Rattle.reading.proofs.example.Statement.{statement}
 use Rattle.reading.proofs.example.Tie as tie
 
