@@ -1,0 +1,2 @@
+-- What the numbers of a script mean.
+pub mod Script
