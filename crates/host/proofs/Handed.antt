@@ -4,7 +4,7 @@
 use Prim.Native.Nat.{ℕ, zero, suc}
 use mathlib.Core.Path.{_≡_, refl, sym, ap, _∙_}
 use mathlib.Core.Bool.{false, not}
-use mathlib.Core.List.{List}
+use mathlib.Core.List.{List, [], _∷_}
 use native.Mathlib.Omega.{arith}
 use lib.ListN.{length}
 use lib.Dec.{eqb}
@@ -16,11 +16,12 @@ use Rattle.runs.specs.DeskFits.{deskFits}
 use Rattle.runs.specs.Room.{Room}
 use Rattle.runs.specs.Call.{Call, refused}
 use Rattle.runs.specs.RefusalTable.{refusal, openRefusal}
-use Rattle.runs.specs.Perform.{Outcome, perform}
+use Rattle.runs.specs.Perform.{Outcome, perform, opening}
+use Rattle.runs.specs.Run.{afterCalls}
 use Rattle.runs.proofs.Performed.{perform-number, perform-refused}
 use Rattle.host.specs.declared.records.HostDesk.{HostDesk}
 use Rattle.host.specs.Records.{allKnown, deskOf, hostDeskOf}
-use Rattle.host.specs.Door.{deskBack, inside, outside, throughDoor}
+use Rattle.host.specs.Door.{HostOutcome, deskBack, inside, outside, throughDoor, openedDoor}
 use Rattle.host.proofs.ThroughDoor.{own-desk-back}
 use Rattle.host.proofs.ThereAndBack.{desk-and-back}
 
@@ -64,3 +65,25 @@ module _ (catalogue : Catalogue) (call : Call) (board : List ℕ) where
       let kept : (answered .answer .number ≡ 0 → ⊥) → answered .room .desk ≡ desk =
       λ some-number. rw (perform-refused catalogue call room (λ e. some-number (perform-number catalogue call room ∙ e))) in
       rw (desk-and-back desk, desk-kept (answered .answer .number) desk (answered .room .desk) kept)
+
+-- calls through the door, each handed the desk and the board of the one before
+unfoldable pub afterDoor : Catalogue → List Call → HostDesk → List ℕ → HostDesk × List ℕ
+afterDoor catalogue [] given board = (given, board)
+afterDoor catalogue (call ∷ calls) given board =
+    let after = throughDoor catalogue call given board in afterDoor catalogue calls (after .desk) (after .board)
+
+pub calls-through-door : (catalogue : Catalogue) (calls : List Call) (room : Room)
+    → afterDoor catalogue calls (hostDeskOf (room .desk)) (room .board)
+    ≡ (hostDeskOf (afterCalls catalogue calls room .desk), afterCalls catalogue calls room .board)
+unfolding afterDoor afterCalls
+calls-through-door catalogue [] room = refl
+calls-through-door catalogue (call ∷ calls) room =
+    ap (λ (o : HostOutcome). afterDoor catalogue calls (o .desk) (o .board)) (call-after-call catalogue call (room .board) (room .desk))
+    ∙ calls-through-door catalogue calls (perform catalogue call room .room)
+
+-- so a host that opens and then makes any calls has the desk and the board of the desk's own run
+pub run-through-door : (catalogue : Catalogue) (board : List ℕ) (calls : List Call)
+    → let opened = openedDoor catalogue board in let run = afterCalls catalogue calls (opening catalogue board .room) in
+    afterDoor catalogue calls (opened .desk) (opened .board) ≡ (hostDeskOf (run .desk), run .board)
+unfolding openedDoor
+run-through-door catalogue board calls = calls-through-door catalogue calls (opening catalogue board .room)

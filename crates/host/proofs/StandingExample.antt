@@ -16,7 +16,7 @@ use Rattle.runs.specs.Perform.{Outcome, done, perform}
 use Rattle.runs.proofs.AcceptedCalls.{AcceptedAsking, accepted, passed}
 use Rattle.runs.proofs.NamedBounds.{feature-bounds}
 use Rattle.runs.proofs.Performed.{perform-number, perform-accepted, perform-refused}
-use Rattle.reading.proofs.Readings.{example-on-board}
+use Rattle.runs.proofs.ExampleOnBoard.{example-on-board}
 use Rattle.host.specs.Door.{exampleStands}
 
 pub stands-nowhere : (number c i a : ℕ) → (number ≡ 0 → ⊥) → record { number = number; from = 0; length = 0 } ≡ exampleStands number c i a

@@ -8,6 +8,7 @@ use native.Mathlib.Omega.{arith}
 use lib.Dec.{leb}
 use borrow.Author.Tests.{le-leb}
 use Rattle.builds.specs.Lists.{Every, none, also}
+use Rattle.search.specs.declared.Place.{Place}
 use Rattle.search.specs.declared.Seat.{Seat}
 use Rattle.search.specs.declared.State.{State}
 use Rattle.search.specs.declared.State.the-variants.{Closed, Ready, AtWork}
@@ -16,6 +17,21 @@ use Rattle.host.specs.declared.records.HostSeat.{HostSeat}
 use Rattle.host.specs.declared.records.HostDesk.{HostDesk}
 use Rattle.host.specs.Records.{deskSeatOf, allKnown, deskOf, hostSeatIn, hostSeatOf, hostDeskOf}
 use Rattle.host.specs.Tidy.{TidySeat, atWork, elsewhere, Tidy}
+
+-- field by field: a host sees the seat's own choices, masks and trial, and 0, 1 and 2 for its state
+pub fields-shown : (seat : Seat) → (hostSeatOf seat .choices ≡ seat .choices) × (hostSeatOf seat .masks ≡ seat .masks)
+    × (hostSeatOf seat .trial ≡ seat .trial)
+fields-shown seat = go (seat .state)
+  where
+    go : (state : State) → (hostSeatIn state seat .choices ≡ seat .choices) × (hostSeatIn state seat .masks ≡ seat .masks)
+        × (hostSeatIn state seat .trial ≡ seat .trial)
+    go Closed = (refl, refl, refl)
+    go Ready = (refl, refl, refl)
+    go (AtWork place) = (refl, refl, refl)
+
+pub states-shown : (seat : Seat) (place : Place)
+    → (hostSeatIn Closed seat .state ≡ 0) × (hostSeatIn Ready seat .state ≡ 1) × (hostSeatIn (AtWork place) seat .state ≡ 2)
+states-shown seat place = (refl, refl, refl)
 
 pub seat-and-back : (seat : Seat) → deskSeatOf (hostSeatOf seat) ≡ seat
 seat-and-back seat = go (seat .state) refl
