@@ -1,15 +1,15 @@
--- What small words mean, in the library's: definitions stand on both sides of many statements, and here they are said once
--- without themselves.
+-- What small words mean, in simpler ones: definitions stand on both sides of many statements, and here they are said once.
 use Prim.Native.Nat.{ℕ, suc, _+_, _≤_}
 use mathlib.Core.Path.{_≡_, refl, sym}
 use mathlib.Core.Logic.{_↔_, ⊎-elim}
 use mathlib.Core.Bool.{Bool, true, false, _||_, true≢false, and-eq-true-iff}
-use mathlib.Core.List.{List, [], _∷_, _++_, map, List·Memᴰ, List·Memᴰ·head, List·Memᴰ·tail, List·Memᴰ·cases-cons, List·Memᴰ·not-nil}
+use mathlib.Core.List.{List, [], _∷_, _++_, map, flatten, List·Memᴰ, List·Memᴰ·head, List·Memᴰ·tail, List·Memᴰ·cases-cons, List·Memᴰ·not-nil}
 use lib.ListN.{length, take, drop}
 use lib.Dec.{eqb}
 use borrow.Author.Tests.{eqb-true, eq-eqb}
 use Rattle.builds.specs.Lists.{OneTo, countFrom, sum, put}
 use Rattle.builds.specs.Catalogue.{Catalogue, catalogueOf}
+use Rattle.builds.specs.Format.{ruleWritten}
 use Rattle.builds.specs.Rule.{Rule, optionAt, matches, someRow, satisfies}
 
 row-is : (row options : List ℕ) → matches row options ≡ true → options ≡ row
@@ -55,6 +55,12 @@ pub satisfied : (build : List ℕ) (rule : Rule)
     → (satisfies build rule ≡ true) ↔ List·Memᴰ (map (optionAt build) (rule .features)) (rule .rows)
 unfolding satisfies
 satisfied build rule = some-row (rule .rows) (map (optionAt build) (rule .features))
+
+-- arity, row count, features, rows
+pub written : (rule : Rule)
+    → ruleWritten rule ≡ length (rule .features) ∷ length (rule .rows) ∷ (rule .features ++ flatten (rule .rows))
+unfolding ruleWritten
+written rule = refl
 
 -- the catalogue of the lists that are lent
 pub lent : (sizes list : List ℕ) → catalogueOf sizes list ≡ record { sizes = sizes; list = list }

@@ -3,12 +3,12 @@
 use Prim.Native.Nat.{ℕ, suc, _*_, _≤_, _<_}
 use mathlib.Core.Path.{_≡_}
 use mathlib.Core.Bool.{true, false}
-use mathlib.Core.List.{List, [], _∷_, _++_, flatten}
-use lib.ListN.{length}
+use mathlib.Core.List.{List, [], _∷_, _++_, flatten, Forall₂}
+use lib.ListN.{length, getD}
 use Rattle.builds.specs.Lists.{Every, OneTo, member}
 use Rattle.builds.specs.Rule.{Rule}
 use Rattle.builds.specs.Catalogue.{Catalogue}
-use Rattle.builds.specs.Format.{ruleWritten, RowWithin, WellFormed}
+use Rattle.builds.specs.Format.{ruleWritten, WellFormed}
 
 -- each feature in turn (16 before 17), after those of this rule that were read already
 pub data InFeatures (count : ℕ) : List ℕ → List ℕ → ℕ → Type 0 where
@@ -31,7 +31,7 @@ pub data InRules (sizes : List ℕ) : ℕ → List ℕ → ℕ → Type 0 where
   few-rows : {left m : ℕ} (fs list : List ℕ) → OneTo 6 (length fs) → InFeatures (length sizes) [] fs 0
       → length list < length fs * m → InRules sizes (suc left) (length fs ∷ m ∷ (fs ++ list)) 14
   a-row : {left : ℕ} (fs list : List ℕ) (rows : List (List ℕ)) → OneTo 6 (length fs) → InFeatures (length sizes) [] fs 0
-      → Every (λ (row : List ℕ). length row ≡ length fs) rows → (Every (RowWithin sizes fs) rows → ⊥)
+      → Every (λ (row : List ℕ). length row ≡ length fs) rows → (Every (λ row. Forall₂ (λ (f o : ℕ). o < getD sizes f 0) fs row) rows → ⊥)
       → InRules sizes (suc left) (length fs ∷ length rows ∷ (fs ++ (flatten rows ++ list))) 18
   next-rule : {left r : ℕ} (rule : Rule) {list : List ℕ} → WellFormed sizes rule → InRules sizes left list r
       → InRules sizes (suc left) (ruleWritten rule ++ list) r

@@ -12,16 +12,12 @@ use Rattle.builds.specs.Catalogue.{Catalogue}
 unfoldable pub ruleWritten : Rule → List ℕ
 ruleWritten rule = length (rule .features) ∷ length (rule .rows) ∷ (rule .features ++ flatten (rule .rows))
 
--- one option of each of some features
-abbrev pub RowWithin : List ℕ → List ℕ → List ℕ → Type 0
-RowWithin sizes features row = Forall₂ (λ (f o : ℕ). o < getD sizes f 0) features row
-
 -- an arity of 1 to 6, features of the catalogue that all differ, rows of one option of each
 pub record WellFormed (sizes : List ℕ) (rule : Rule) : Type 0 where
   pub arity : OneTo 6 (length (rule .features))
   pub known : Every (λ (f : ℕ). f < length sizes) (rule .features)
   pub different : List·Nodup (rule .features)
-  pub within : Every (RowWithin sizes (rule .features)) (rule .rows)
+  pub within : Every (λ (row : List ℕ). Forall₂ (λ (f o : ℕ). o < getD sizes f 0) (rule .features) row) (rule .rows)
 
 -- 1 to 16 features of 1 to 16 options, and a rule list of at most 8,192 numbers that is the writing-out of 0 to 64
 -- well-formed rules

@@ -1,13 +1,15 @@
 -- The small words (`Words` of the builds, the search and the runs).
-use Rattle.builds.proofs.Words.{satisfied, one-to, counting, adding, writing}
+use Rattle.builds.proofs.Words.{satisfied, written, one-to, counting, adding, writing}
 use Rattle.search.proofs.Words.{bit, left, working}
-use Rattle.runs.proofs.Words.{own, own-calls, asked}
+use Rattle.runs.proofs.Words.{own, seated, own-calls, asked}
 use Rattle.promises.specs.Words.{Words}
 
 pub words : Words
 words = record {
   satisfied = satisfied;
+  written = written;
   own = own;
+  seated = seated;
   bit = bit;
   left = left;
   working = working;

@@ -1,4 +1,4 @@
--- Any desk and board, in a run or not: what their types tell of them.
+-- Any desk and board, in a run or not: the lengths that the types fix, and that of a board which passes check 1.
 use Prim.Native.Nat.{ℕ, _<_}
 use mathlib.Core.Path.{_≡_}
 use lib.ListN.{length}

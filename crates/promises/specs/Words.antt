@@ -1,12 +1,13 @@
--- The small words that stand in many statements, each said once without itself, in the library's words.
+-- The small words that stand in many statements, on both sides of some: each said once, in simpler ones.
 use Prim.Native.Nat.{ℕ, suc, _+_, _*_, _/_, _%_, _^_, _≤_}
 use mathlib.Core.Path.{_≡_}
 use mathlib.Core.Logic.{_↔_}
 use mathlib.Core.Bool.{true, false}
-use mathlib.Core.List.{List, [], _∷_, _++_, map, List·Memᴰ}
+use mathlib.Core.List.{List, [], _∷_, _++_, map, flatten, List·Memᴰ}
 use lib.ListN.{length, getD, take, drop}
 use Rattle.builds.specs.Lists.{OneTo, countFrom, sum, put}
 use Rattle.builds.specs.Rule.{Rule, optionAt, satisfies}
+use Rattle.builds.specs.Format.{ruleWritten}
 use Rattle.search.specs.declared.Seat.{Seat}
 use Rattle.search.specs.declared.Place.{Place}
 use Rattle.search.specs.declared.State.{State}
@@ -14,8 +15,9 @@ use Rattle.search.specs.declared.State.the-variants.{AtWork}
 use Rattle.search.specs.Bits.{hasBit}
 use Rattle.search.specs.Look.{isAtWork, isLeft}
 use Rattle.search.specs.Clinic.{noSeat}
+use Rattle.runs.specs.declared.Desk.{Desk}
 use Rattle.runs.specs.declared.Asking.{Asking}
-use Rattle.runs.specs.Room.{Room, clinicAt}
+use Rattle.runs.specs.Room.{Room, seatAt, clinicAt}
 use Rattle.runs.specs.Call.{asks, turns, isOf}
 use Rattle.runs.specs.Run.{turnsAsked}
 
@@ -23,9 +25,13 @@ pub record Words : Type 0 where
   -- a build satisfies a rule when its options at the rule's features, in the rule's order, are one of the rows
   pub satisfied : (build : List ℕ) (rule : Rule)
       → (satisfies build rule ≡ true) ↔ List·Memᴰ (map (optionAt build) (rule .features)) (rule .rows)
+  -- arity, row count, features, rows
+  pub written : (rule : Rule)
+      → ruleWritten rule ≡ length (rule .features) ∷ length (rule .rows) ∷ (rule .features ++ flatten (rule .rows))
   -- seat c owns the 4,096 bytes from c × 4,096
   pub own : (room : Room) (c : ℕ)
       → clinicAt room c ≡ record { seat = getD (room .desk .seats) c noSeat; share = take 4096 (drop (c * 4096) (room .board)) }
+  pub seated : (desk : Desk) (c : ℕ) → seatAt desk c ≡ getD (desk .seats) c noSeat
   -- bit a for option a
   pub bit : (mask a : ℕ) → (hasBit mask a ≡ true) ↔ (mask / 2 ^ a % 2 ≡ 1)
   pub left : (seat : Seat) (i a : ℕ) → isLeft seat i a ≡ hasBit (getD (seat .masks) i 0) a

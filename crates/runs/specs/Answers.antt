@@ -3,6 +3,7 @@ use Prim.Native.Nat.{ℕ, zero, suc, _+_, _*_}
 use mathlib.Core.Path.{_≡_}
 use mathlib.Core.Bool.{false}
 use mathlib.Core.List.{List, []}
+use Rattle.builds.specs.Catalogue.{Catalogue, catalogueOf}
 use Rattle.runs.specs.declared.Desk.{Desk}
 use Rattle.runs.specs.declared.answers.Changed.{Changed}
 use Rattle.runs.specs.declared.answers.Left.{Left}
@@ -54,6 +55,7 @@ NumberIs outcome number = number ≡ outcome .answer .number
 -- What these say, field by field: a call is the promises' `perform`, on sizes and list, desk and board as they are lent, and the
 -- code's answer has its number and all else.
 pub record Lent : Type 0 where
+  pub lists-lent : (sizes list : List ℕ) → catalogueOf sizes list ≡ record { sizes = sizes; list = list }
   pub on-what-is-lent : (sizes list : List ℕ) (desk : Desk) (board : List ℕ) (call : Call) → performed sizes list desk board call
       ≡ perform (record { sizes = sizes; list = list }) call (record { desk = desk; board = board })
   pub changed-is : (outcome : Outcome) (changed : Changed) (board : List ℕ) → ChangesTo outcome changed board
@@ -63,3 +65,10 @@ pub record Lent : Type 0 where
   pub turned-is : (outcome : Outcome) (turned : Turned) (board : List ℕ) → TurnsTo outcome turned board
       → (turned .number ≡ outcome .answer .number) × (turned .made ≡ outcome .answer .made) × (turned .working ≡ outcome .answer .working)
       × (turned .desk ≡ outcome .room .desk) × (board ≡ outcome .room .board)
+  pub bytes-are : (outcome : Outcome) (bytes : List ℕ) → BytesAre outcome bytes → bytes ≡ outcome .answer .bytes
+  pub number-is : (outcome : Outcome) (number : ℕ) → NumberIs outcome number → number ≡ outcome .answer .number
+  -- in seat c's share, at feature i and option a; refused, at the board's beginning
+  pub begins-at : (outcome : Outcome) (board : ℕ × ℕ) (c i a : ℕ) (begins : ℕ × ℕ) → outcome .answer .number ≡ 0
+      → BeginsAt outcome board c i a begins → begins ≡ (board .0, (c * 4096 + i * 256 + a * 16) + board .1)
+  pub begins-nowhere : (outcome : Outcome) (board : ℕ × ℕ) (c i a : ℕ) (begins : ℕ × ℕ) → (outcome .answer .number ≡ 0 → ⊥)
+      → BeginsAt outcome board c i a begins → begins ≡ board

@@ -46,8 +46,11 @@ pub data NamesFeature : Asking → ℕ → Type 0 where
   options : {i : ℕ} → NamesFeature (Read (Options i)) i
 
 pub data Sentence (catalogue : Catalogue) (room : Room) : Call → ℕ → Type 0 where
+  -- 1, and 10 to 18
   to-open : {call : Call} {r : ℕ} → OpenSentence catalogue (room .board) r → Sentence catalogue room call r
+  -- 20: the desk doesn't fit the catalogue
   desk-misfit : {call : Call} → DeskMisfit catalogue (room .desk) → Sentence catalogue room call 20
+  -- 30: seat above 7
   seat-above-7 : {c : ℕ} {asking : Asking} → 7 < c → Sentence catalogue room (asks c asking) 30
   -- 31: seat closed (not for enter)
   seat-closed : {c : ℕ} {asking : Asking} → (asking ≡ Enter → ⊥) → seatAt (room .desk) c .state ≡ Closed
@@ -57,6 +60,7 @@ pub data Sentence (catalogue : Catalogue) (room : Room) : Call → ℕ → Type 
   -- 33: seat at work (not for enter, leave)
   seat-at-work : {c : ℕ} {asking : Asking} {p : Place} → (asking ≡ Enter → ⊥) → (asking ≡ Leave → ⊥)
       → seatAt (room .desk) c .state ≡ AtWork p → Sentence catalogue room (asks c asking) 33
+  -- 34: feature not in the catalogue
   no-such-feature : {c i : ℕ} {asking : Asking} → NamesFeature asking i → length (catalogue .sizes) ≤ i
       → Sentence catalogue room (asks c asking) 34
   -- 35: option not below the size (choose, example)

@@ -19,8 +19,8 @@ abbrev pub turnsAsked : Call → ℕ
 turnsAsked (asks c asking) = 0
 turnsAsked (turns w) = w
 
--- the steps that a call gives seat c: only turns that are not refused do. They are counted by the turns asked for, not by
--- the answer.
+-- the steps that a call gives seat c: only turns that are not refused do. They are counted turn by turn, not by the count
+-- that is answered.
 abbrev pub given : Catalogue → ℕ → Call → Room → ℕ
 given catalogue c (asks d asking) room = 0
 given catalogue c (turns w) room = cond (eqb (perform catalogue (turns w) room .answer .number) 0) (stepsGiven catalogue c w room) 0

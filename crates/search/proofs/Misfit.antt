@@ -71,7 +71,7 @@ module _ (catalogue : Catalogue) (seat : Seat) where
   no-misfit fits (Misfit.placed {p} f e before l above) =
       let depth : depthOf (seat .state) ≡ p .depth = ap depthOf e in
       omega (arith, fits .placed-below f l (omega arith))
-  no-misfit fits (Misfit.not-placed f l from other) =
+  no-misfit fits (Misfit.other-entry f l from other) =
       other (fits .nothing-from f l (depth-at-most f (seat .state) from))
   no-misfit fits (Misfit.closed-choice f e l other) = other (fits .state-fits .closed-empty e f l .0)
   no-misfit fits (Misfit.closed-mask-bit f a e l bit) =
@@ -133,7 +133,7 @@ module _ (catalogue : Catalogue) (seat : Seat) where
           → Misfit catalogue seat
       go f l true e h = placed-fails f l (seat .state) refl (ltb-true _ _ e) (ltb-false _ _ h)
       go f l false e h =
-          Misfit.not-placed f l
+          Misfit.other-entry f l
           (λ (p : Place) at-p. let depth : depthOf (seat .state) ≡ p .depth = ap depthOf at-p in
           omega (arith, ltb-false f (depthOf (seat .state)) e)) (eqb-false _ 255 h)
 

@@ -29,7 +29,7 @@ Least P n = P n × ((other : ℕ) → P other → n ≤ other)
 abbrev pub Greater : List ℕ → List ℕ → ℕ → ℕ → List ℕ → ℕ → ℕ → Type 0
 Greater sizes choices i a placed d w = (getD placed d 255 < w) × Candidate sizes choices i a d w
 
--- what is placed breaks no rule whose highest-numbered feature is j: one that it names, and none above it
+-- what is placed breaks no rule whose highest-numbered feature is j: j is one of its features, and none of them is above j
 abbrev pub Passed : Catalogue → ℕ → List ℕ → Type 0
 Passed catalogue j placed = Every (λ (rule : Rule). member j (rule .features) ≡ true → Every (λ (f : ℕ). f ≤ j) (rule .features)
     → satisfies placed rule ≡ true) (rulesOf catalogue)

@@ -10,6 +10,8 @@ use Rattle.search.specs.declared.Place.{Place}
 use Rattle.search.specs.declared.State.the-variants.{Closed, AtWork}
 use Rattle.search.specs.Look.{isLeft}
 
+-- Where a clause asks "(f < length …) → …", a missing feature meets it: it has no option. Where a seat isn't at work, every
+-- trial entry is one of "any other".
 pub data Misfit (catalogue : Catalogue) (seat : Seat) : Type 0 where
   -- a choice that is neither 255 nor an option of its feature, or not 255 for a missing feature
   choice : (f : ℕ) → f < 16 → (getD (seat .choices) f 255 ≡ 255 → ⊥)
@@ -24,7 +26,7 @@ pub data Misfit (catalogue : Catalogue) (seat : Seat) : Type 0 where
   -- at work, a trial entry before j not below its feature's size; any other trial entry that isn't 255
   placed : {p : Place} (f : ℕ) → seat .state ≡ AtWork p → f < p .depth → f < 16 → sizeOf catalogue f ≤ getD (seat .trial) f 255
       → Misfit catalogue seat
-  not-placed : (f : ℕ) → f < 16 → ((p : Place) → seat .state ≡ AtWork p → p .depth ≤ f) → (getD (seat .trial) f 255 ≡ 255 → ⊥)
+  other-entry : (f : ℕ) → f < 16 → ((p : Place) → seat .state ≡ AtWork p → p .depth ≤ f) → (getD (seat .trial) f 255 ≡ 255 → ⊥)
       → Misfit catalogue seat
   -- a closed seat with a choice or a mask bit
   closed-choice : (f : ℕ) → seat .state ≡ Closed → f < 16 → (getD (seat .choices) f 255 ≡ 255 → ⊥) → Misfit catalogue seat

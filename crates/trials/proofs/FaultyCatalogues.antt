@@ -8,7 +8,8 @@ use lib.Dec.{lit<, lit≤}
 use Rattle.builds.specs.Lists.{Every, OneTo, none, also, member}
 use Rattle.builds.specs.Rule.{Rule}
 use Rattle.builds.specs.Catalogue.{Catalogue}
-use Rattle.builds.specs.Format.{ruleWritten, RowWithin, WellFormed}
+use Rattle.builds.specs.Format.{ruleWritten, WellFormed}
+use Rattle.builds.proofs.FaultMet.Rows.{RowWithin}
 use Rattle.builds.specs.FaultMet.{InFeatures, InRules, FaultMet}
 
 -- ---- sizes and the length of the list

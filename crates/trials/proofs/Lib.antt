@@ -22,3 +22,4 @@ pub mod FaultyCatalogues
 pub mod Faults
 pub mod Openings
 pub mod Words
+pub mod Lent

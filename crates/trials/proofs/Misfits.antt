@@ -127,7 +127,7 @@ nothing-placed = Misfit.placed {p = at-place 0 0 1 0} 0 refl (lit< tt) (lit< tt)
 
 too-much-placed : Misfit trolley (seat-of Ready nothing16 noneLeft (0 ∷ replicate 15 255))
 too-much-placed =
-    Misfit.not-placed 0 (lit< tt) (λ (p : Place) e. absurd (false≢true (ap isAtWork e)))
+    Misfit.other-entry 0 (lit< tt) (λ (p : Place) e. absurd (false≢true (ap isAtWork e)))
     (λ (e : _≡_ {A = ℕ} 0 255). omega (arith, e))
 
 -- a closed seat with a choice, with a bit

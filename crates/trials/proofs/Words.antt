@@ -2,11 +2,12 @@
 use Prim.Native.Nat.{ℕ, _+_, _/_, _%_, _^_, _≤_}
 use mathlib.Core.Path.{_≡_, refl, ap, _∙_}
 use mathlib.Core.Bool.{true, false}
-use mathlib.Core.List.{List, [], _∷_, List·Memᴰ}
+use mathlib.Core.List.{List, [], _∷_, flatten, List·Memᴰ}
 use native.Mathlib.Omega.{arith}
 use lib.ListN.{take, drop}
 use Rattle.builds.specs.Lists.{OneTo, countFrom, sum, put}
 use Rattle.builds.specs.Rule.{Rule}
+use Rattle.builds.specs.Format.{ruleWritten}
 use Rattle.search.specs.declared.Place.{Place}
 use Rattle.search.specs.declared.State.the-variants.{AtWork}
 use Rattle.search.specs.Bits.{hasBit}
@@ -14,7 +15,7 @@ use Rattle.search.specs.Look.{isAtWork, isLeft}
 use Rattle.search.specs.Clinic.{Clinic, closedSeat}
 use Rattle.search.specs.Trolley.{trolley}
 use Rattle.runs.specs.declared.Asking.the-variants.{Enter}
-use Rattle.runs.specs.Room.{clinicAt}
+use Rattle.runs.specs.Room.{seatAt, clinicAt}
 use Rattle.runs.specs.Call.{asks, turns, isOf}
 use Rattle.runs.specs.Run.{turnsAsked}
 use Rattle.runs.proofs.Computing.{computing}
@@ -24,7 +25,7 @@ use Rattle.promises.proofs.Words.{words as proved-words}
 use Rattle.trials.proofs.Runs.{board}
 
 -- two rows on features 1 and 0: the options are taken in the rule's order
-unfoldable twoRows : Rule
+unfoldable pub twoRows : Rule
 twoRows = record { features = 1 ∷ 0 ∷ []; rows = (0 ∷ 1 ∷ []) ∷ (2 ∷ 1 ∷ []) ∷ [] }
 
 place : Place
@@ -37,6 +38,14 @@ module _ (demand : Words) where
 
   share-of-3 : clinicAt (moment trolley board []) 3 .share ≡ take 4096 (drop 12288 (moment trolley board [] .board))
   share-of-3 = ap (λ (clinic : Clinic). clinic .share) (demand .own (moment trolley board []) 3)
+
+  list-written : ruleWritten twoRows ≡ 2 ∷ 2 ∷ 1 ∷ 0 ∷ 0 ∷ 1 ∷ 2 ∷ 1 ∷ []
+  unfolding twoRows flatten
+  list-written = demand .written twoRows
+
+  third-seat : seatAt (moment trolley board [] .desk) 3 ≡ closedSeat
+  unfolding board computing moment
+  third-seat = demand .seated (moment trolley board [] .desk) 3
 
   bit-2 : 5 / 2 ^ 2 % 2 ≡ 1
   bit-2 = demand .bit 5 2 .0 refl
@@ -72,6 +81,12 @@ one-of-the-rows = row-found proved-words
 
 pub share-begins : clinicAt (moment trolley board []) 3 .share ≡ take 4096 (drop 12288 (moment trolley board [] .board))
 share-begins = share-of-3 proved-words
+
+pub two-rows-written : ruleWritten twoRows ≡ 2 ∷ 2 ∷ 1 ∷ 0 ∷ 0 ∷ 1 ∷ 2 ∷ 1 ∷ []
+two-rows-written = list-written proved-words
+
+pub third-seat-closed : seatAt (moment trolley board [] .desk) 3 ≡ closedSeat
+third-seat-closed = third-seat proved-words
 
 pub bit-2-of-5 : 5 / 2 ^ 2 % 2 ≡ 1
 bit-2-of-5 = bit-2 proved-words

@@ -11,13 +11,12 @@ use borrow.Author.Tests.{lt-ltb, le-ltb}
 use Rattle.builds.specs.Checks.{when, first}
 use Rattle.builds.specs.Fault.{featuresFault, rowsFault, ruleFault}
 use Rattle.builds.specs.Lists.{Every, OneTo}
-use Rattle.builds.specs.Format.{RowWithin}
 use Rattle.builds.specs.FaultMet.{InFeatures}
 use Rattle.builds.proofs.OneTo.{one-to, not-one-to}
 use Rattle.builds.proofs.Format.Rows.{rows-length}
 use Rattle.builds.proofs.Format.OneRule.{drop-header}
 use Rattle.builds.proofs.FaultMet.Features.{features-met}
-use Rattle.builds.proofs.FaultMet.Rows.{rows-fault}
+use Rattle.builds.proofs.FaultMet.Rows.{RowWithin, rows-fault}
 
 module _ (sizes : List ℕ) (k m : ℕ) (list : List ℕ) where
   pub arity-fault : (OneTo 6 k → ⊥) → ruleFault sizes (k ∷ m ∷ list) ≡ 15

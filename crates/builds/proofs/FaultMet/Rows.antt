@@ -1,18 +1,21 @@
 -- A rule's rows: whether they fit is decided, and where they do not, the reader answers 18.
-use Prim.Native.Nat.{ℕ, zero, suc, _*_, _≤_}
+use Prim.Native.Nat.{ℕ, zero, suc, _*_, _≤_, _<_}
 use mathlib.Core.Path.{_≡_, refl}
 use mathlib.Core.Logic.{_⊎_}
 use mathlib.Core.Bool.{not}
-use mathlib.Core.List.{List, [], _++_, flatten}
+use mathlib.Core.List.{List, [], _++_, flatten, Forall₂}
 use native.Mathlib.Omega.{arith}
-use lib.ListN.{length, drop, length-append, length-drop}
+use lib.ListN.{length, getD, drop, length-append, length-drop}
 use lib.Seq.{length-take-le}
 use Rattle.builds.specs.Catalogue.{rowsRead}
 use Rattle.builds.specs.Fault.{rowFits, rowsFault}
 use Rattle.builds.specs.Lists.{Every}
-use Rattle.builds.specs.Format.{RowWithin}
 use Rattle.builds.proofs.FaultMet.Decided.{ZeroOr, orElse-either, at-fault, decided}
 use Rattle.builds.proofs.Format.Rows.{rows-read, rows-written, rows-length, rows-back}
+
+-- one option of each of some features
+abbrev pub RowWithin : List ℕ → List ℕ → List ℕ → Type 0
+RowWithin sizes fs row = Forall₂ (λ (f o : ℕ). o < getD sizes f 0) fs row
 
 -- rows that are read from a list that has them are rows of one length
 pub rows-even : (k m : ℕ) (list : List ℕ) → k * m ≤ length list

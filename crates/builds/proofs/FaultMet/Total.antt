@@ -8,13 +8,13 @@ use lib.ListN.{length, take, drop, take-append-drop}
 use lib.Seq.{length-take-le}
 use Rattle.builds.specs.Lists.{Every, OneTo}
 use Rattle.builds.specs.Rule.{Rule}
-use Rattle.builds.specs.Format.{ruleWritten, RowWithin, WellFormed}
+use Rattle.builds.specs.Format.{ruleWritten, WellFormed}
 use Rattle.builds.specs.FaultMet.{InFeatures, InRules}
 use Rattle.builds.proofs.OneTo.{one-to-decided}
 use Rattle.builds.proofs.Format.Rows.{rows-count, rows-joined}
 use Rattle.builds.proofs.Format.Features.{features-fine}
 use Rattle.builds.proofs.FaultMet.Features.{features-meet}
-use Rattle.builds.proofs.FaultMet.Rows.{rows-even, rows-decided}
+use Rattle.builds.proofs.FaultMet.Rows.{RowWithin, rows-even, rows-decided}
 
 abbrev Meets : List ℕ → ℕ → List ℕ → Type 0
 Meets sizes n list = (r : ℕ) × InRules sizes n list r
