@@ -1,4 +1,4 @@
-// Eight seats and the ring: the only face that a host sees. Every call takes any numbers, any lent memory and any
+// Eight seats and the ring: the calls themselves. Every call takes any numbers, any lent memory and any
 // catalogue; what can't be done gets its number from the table, and then desk and board are as they came.
 //
 // A seat's states, with the calls on the arrows:
