@@ -31,6 +31,6 @@ pub record FirstWith (catalogue : Catalogue) (choices : List ℕ) (i a : ℕ) (b
   pub one-of-them : BuildWith catalogue choices i a build
   pub none-before : (other : List ℕ) → BuildWith catalogue choices i a other → (build ≡ other) ⊎ Before build other
 
--- sixteen bytes: the build's options, then 255 for features not in the catalogue
+-- sixteen bytes: the build's options, then 255 for features not in the catalogue; the laws' name for what `OptionsLeft` writes out
 abbrev pub padded : List ℕ → List ℕ
 padded build = build ++ replicate (16 - length build) 255

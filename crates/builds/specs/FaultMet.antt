@@ -31,7 +31,8 @@ pub data InRules (sizes : List ℕ) : ℕ → List ℕ → ℕ → Type 0 where
   few-rows : {left m : ℕ} (fs list : List ℕ) → OneTo 6 (length fs) → InFeatures (length sizes) [] fs 0
       → length list < length fs * m → InRules sizes (suc left) (length fs ∷ m ∷ (fs ++ list)) 14
   a-row : {left : ℕ} (fs list : List ℕ) (rows : List (List ℕ)) → OneTo 6 (length fs) → InFeatures (length sizes) [] fs 0
-      → Every (λ (row : List ℕ). length row ≡ length fs) rows → (Every (λ row. Forall₂ (λ (f o : ℕ). o < getD sizes f 0) fs row) rows → ⊥)
+      → Every (λ (row : List ℕ). length row ≡ length fs) rows
+      → (Every (λ (row : List ℕ). Forall₂ (λ (f o : ℕ). o < getD sizes f 0) fs row) rows → ⊥)
       → InRules sizes (suc left) (length fs ∷ length rows ∷ (fs ++ (flatten rows ++ list))) 18
   next-rule : {left r : ℕ} (rule : Rule) {list : List ℕ} → WellFormed sizes rule → InRules sizes left list r
       → InRules sizes (suc left) (ruleWritten rule ++ list) r

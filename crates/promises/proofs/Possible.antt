@@ -26,9 +26,9 @@ use Rattle.runs.specs.Perform.{perform}
 use Rattle.runs.proofs.Sound.{Sound}
 use Rattle.runs.proofs.ChecksPassed.{checks-passed, turns-accepted}
 use Rattle.runs.proofs.Performed.{perform-number}
-use Rattle.promises.specs.Moment.{moment, Opened, seatIn}
+use Rattle.promises.specs.Moment.{moment, Opened, IsDone, seatIn}
 use Rattle.promises.specs.OptionsLeft.{Seen}
-use Rattle.promises.specs.Possible.{IsDone, WhenReady, Possible}
+use Rattle.promises.specs.Possible.{WhenReady, Possible}
 use Rattle.promises.proofs.SoundMoments.{opened-faultless, sound-moment}
 use Rattle.promises.proofs.OptionsLeft.{mask-answered, options-left}
 

@@ -1,32 +1,35 @@
 -- How a clinic at its job is moved on. A turn that serves the seat gives it one step, and serves it only at work, so that steps
 -- were still to be made; a turn that serves another leaves it where it is, and one that isn't at work is never served.
-use Prim.Native.Nat.{ℕ, zero, suc, _+_, _≤_}
+use Prim.Native.Nat.{ℕ, zero, suc, _+_, _≤_, _<_}
 use mathlib.Core.Path.{_≡_, refl, sym, ap, _∙_, subst}
-use mathlib.Core.Bool.{Bool, true, false, cond}
+use mathlib.Core.Bool.{Bool, true, false, cond, true≢false}
 use mathlib.Core.Option.{Option, none, some}
 use native.Mathlib.Nat.{add-zero, add-assoc}
-use native.Mathlib.Numerals.{add-one}
 use native.Mathlib.Omega.{arith}
-use lib.Dec.{ltb, eqb}
-use borrow.Author.Tests.{ltb-true, ltb-false, eqb-true, eqb-false}
+use lib.Dec.{ltb}
+use borrow.Author.Tests.{ltb-true, ltb-false, eqb-true}
 use Rattle.builds.specs.Catalogue.{Catalogue}
 use Rattle.builds.specs.Fault.{faultOf}
 use Rattle.search.specs.declared.State.the-variants.{Ready}
 use Rattle.search.specs.Clinic.{Clinic}
-use Rattle.search.specs.Step.{step, steps, ReadyAfter}
+use Rattle.search.specs.Step.{steps, ReadyAfter}
+use Rattle.search.proofs.StepsAdded.{steps-added}
 use Rattle.search.proofs.ReadyOnce.{not-both}
-use Rattle.runs.specs.Room.{Room, clinicAt}
+use Rattle.runs.specs.declared.Desk.{Desk}
+use Rattle.runs.specs.Room.{Room, seatAt, clinicAt}
 use Rattle.runs.specs.Turn.{isAtWork, served, is, turn, afterTurns, stepsGiven}
 use Rattle.runs.proofs.Sound.{Sound, turn-sound}
-use Rattle.runs.proofs.Served.{served-found, not-idle}
-use Rattle.runs.proofs.OthersStay.{turn-steps, turn-stays}
-use Rattle.runs.proofs.IdleTurns.{idle-turn}
+use Rattle.runs.proofs.Served.{served-found}
+use Rattle.runs.proofs.StepsGiven.{one-turn}
 use Rattle.promises.specs.Jobs.{After}
 
-one-step-more : (catalogue : Catalogue) (n : ℕ) (clinic : Clinic) → steps catalogue (n + 1) clinic ≡ step catalogue (steps catalogue n clinic)
-unfolding steps
-one-step-more catalogue zero clinic = refl
-one-step-more catalogue (suc n) clinic = rw add-one (rw add-one at (one-step-more catalogue n (step catalogue clinic)))
+-- a turn that serves a seat finds it at work
+at-work-served : (desk : Desk) → desk .next < 8 → (c : ℕ) → is c (served desk) ≡ true → isAtWork (seatAt desk c .state) ≡ true
+at-work-served desk next-below c = go (served desk) refl
+  where
+    go : (found : Option ℕ) → served desk ≡ found → is c found ≡ true → isAtWork (seatAt desk c .state) ≡ true
+    go none e h = absurd (true≢false (sym h))
+    go (some d) e h = rw (eqb-true c d h) (served-found desk next-below d e .at-work)
 
 module _ (catalogue : Catalogue) (start : Clinic) (K : ℕ) (takes : ReadyAfter catalogue start K) where
   -- ready exactly when all its steps were made
@@ -45,42 +48,27 @@ module _ (catalogue : Catalogue) (start : Clinic) (K : ℕ) (takes : ReadyAfter 
           ap (λ (x : Clinic). x .seat .state) same
           ∙ subst (λ (n : ℕ). steps catalogue n start .seat .state ≡ Ready) (sym e) (takes .ready)
 
-  -- a step that a seat at work makes
-  step-made : (clinic : Clinic) (given : ℕ) → isAtWork (clinic .seat .state) ≡ true → After catalogue start clinic K given
-      → After catalogue start (step catalogue clinic) K (given + 1)
-  step-made clinic given work here =
-      steps-made (step catalogue clinic) (given + 1)
-      (ap (step catalogue) (here .is-after) ∙ sym (one-step-more catalogue given start)) (more (ltb given K) refl)
-    where
-      more : (t : Bool) → ltb given K ≡ t → given + 1 ≤ K
-      more true e = let l = ltb-true given K e in omega arith
-      more false e =
-          let most = ltb-false given K e in
-          let few = here .at-most-K in
-          let all : given ≡ K = omega arith in
-          absurd (not-idle (clinic .seat .state) Ready work refl (here .ready-exactly .1 all))
-
   module _ (fault : faultOf catalogue ≡ 0) (c : ℕ) where
     pub turn-made : (given : ℕ) (room : Room) → Sound catalogue room → After catalogue start (clinicAt room c) K given
         → After catalogue start (clinicAt (turn catalogue room) c) K (given + cond (is c (served (room .desk))) 1 0)
-    turn-made given room sound here = go (served (room .desk)) refl
+    turn-made given room sound here =
+        steps-made (clinicAt (turn catalogue room) c) (given + cond (is c (served (room .desk))) 1 0)
+        (one-turn catalogue fault c room sound
+        ∙ ap (steps catalogue (cond (is c (served (room .desk))) 1 0)) (here .is-after)
+        ∙ sym (steps-added catalogue given (cond (is c (served (room .desk))) 1 0) start))
+        (few (is c (served (room .desk))) refl)
       where
-        unmoved : clinicAt (turn catalogue room) c ≡ clinicAt room c → After catalogue start (clinicAt (turn catalogue room) c) K (given + 0)
-        unmoved same = rw (same, add-zero given) here
+        -- one that is served is at work, and so not ready: a step was still to be made
+        below : is c (served (room .desk)) ≡ true → (u : Bool) → ltb given K ≡ u → given + 1 ≤ K
+        below e true l = omega (arith, ltb-true given K l)
+        below e false l =
+            let all : given ≡ K = omega (arith, here .at-most-K, ltb-false given K l) in
+            let work = at-work-served (room .desk) (sound .next-below) c e in
+            absurd (not-both (clinicAt room c .seat .state) (here .ready-exactly .1 all) work)
 
-        some-seat : (d : ℕ) → served (room .desk) ≡ some d → (t : Bool) → eqb c d ≡ t
-            → After catalogue start (clinicAt (turn catalogue room) c) K (given + cond t 1 0)
-        some-seat d found true e =
-            let same : d ≡ c = sym (eqb-true c d e) in
-            let this : served (room .desk) ≡ some c = rw same at found in
-            rw (turn-steps catalogue fault room sound c this)
-            (step-made (clinicAt room c) given (served-found (room .desk) (sound .next-below) c this .at-work) here)
-        some-seat d found false e = unmoved (turn-stays catalogue fault room sound d found c (eqb-false c d e))
-
-        go : (found : Option ℕ) → served (room .desk) ≡ found
-            → After catalogue start (clinicAt (turn catalogue room) c) K (given + cond (is c found) 1 0)
-        go none idle = unmoved (ap (λ (r : Room). clinicAt r c) (idle-turn catalogue room idle))
-        go (some d) found = some-seat d found (eqb c d) refl
+        few : (t : Bool) → is c (served (room .desk)) ≡ t → given + cond t 1 0 ≤ K
+        few true e = below e (ltb given K) refl
+        few false e = omega (arith, here .at-most-K)
 
     pub turns-made : (w given : ℕ) (room : Room) → Sound catalogue room → After catalogue start (clinicAt room c) K given
         → After catalogue start (clinicAt (afterTurns catalogue w room) c) K (given + stepsGiven catalogue c w room)
@@ -95,19 +83,14 @@ module _ (catalogue : Catalogue) (start : Clinic) (K : ℕ) (takes : ReadyAfter 
 module _ (catalogue : Catalogue) (fault : faultOf catalogue ≡ 0) (c : ℕ) where
   turn-idle : (room : Room) → Sound catalogue room → isAtWork (clinicAt room c .seat .state) ≡ false
       → clinicAt (turn catalogue room) c ≡ clinicAt room c
-  turn-idle room sound idle = go (served (room .desk)) refl
+  unfolding steps
+  turn-idle room sound idle =
+      one-turn catalogue fault c room sound
+      ∙ ap (λ (t : Bool). steps catalogue (cond t 1 0) (clinicAt room c)) (not-served (is c (served (room .desk))) refl)
     where
-      some-seat : (d : ℕ) → served (room .desk) ≡ some d → (t : Bool) → eqb c d ≡ t → clinicAt (turn catalogue room) c ≡ clinicAt room c
-      some-seat d found true e =
-          let same : d ≡ c = sym (eqb-true c d e) in
-          let this : served (room .desk) ≡ some c = rw same at found in
-          absurd (not-idle (clinicAt room c .seat .state) (clinicAt room c .seat .state)
-          (served-found (room .desk) (sound .next-below) c this .at-work) idle refl)
-      some-seat d found false e = turn-stays catalogue fault room sound d found c (eqb-false c d e)
-
-      go : (found : Option ℕ) → served (room .desk) ≡ found → clinicAt (turn catalogue room) c ≡ clinicAt room c
-      go none none-found = ap (λ (r : Room). clinicAt r c) (idle-turn catalogue room none-found)
-      go (some d) found = some-seat d found (eqb c d) refl
+      not-served : (t : Bool) → is c (served (room .desk)) ≡ t → is c (served (room .desk)) ≡ false
+      not-served true e = absurd (true≢false (sym (at-work-served (room .desk) (sound .next-below) c e) ∙ idle))
+      not-served false e = e
 
   pub turns-idle : (w : ℕ) (room : Room) → Sound catalogue room → isAtWork (clinicAt room c .seat .state) ≡ false
       → clinicAt (afterTurns catalogue w room) c ≡ clinicAt room c

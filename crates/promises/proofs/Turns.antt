@@ -98,7 +98,7 @@ module _ (catalogue : Catalogue) (room : Room) (whole : Whole room) (passes : Pa
       let nobody-served = nobody room (sound .next-below) in
       record {
         gives-one-step = λ c first. turn-steps catalogue fault room sound c (serves c first);
-        leaves-the-others = λ c first d l. turn-stays catalogue fault room sound c (serves c first) d;
+        leaves-the-others = λ c d first l. turn-stays catalogue fault room sound c (serves c first) d;
         moves-next-on = λ c first. turn-next catalogue fault room sound c (serves c first);
         is-counted = λ c first. rw (serves c first) refl;
         finds-nobody = λ idle. (idle-turn catalogue room (nobody-served idle), idle-made catalogue 1 room (nobody-served idle));

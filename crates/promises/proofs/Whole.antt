@@ -7,10 +7,10 @@ use Rattle.runs.specs.Room.{Room, seatAt}
 use Rattle.runs.specs.DeskFits.{deskFits}
 use Rattle.search.proofs.ClinicFits.{Sixteen}
 use Rattle.runs.specs.Call.{turns}
-use Rattle.runs.specs.Perform.{perform}
 use Rattle.runs.proofs.Performed.{perform-number}
 use Rattle.runs.proofs.AcceptedCalls.{Checked, checked}
 use Rattle.runs.proofs.Sound.{Sound, fits-sound}
+use Rattle.promises.specs.Moment.{IsDone}
 use Rattle.promises.specs.Whole.{Whole}
 
 module _ (room : Room) (whole : Whole room) where
@@ -26,7 +26,7 @@ module _ (room : Room) (whole : Whole room) where
 
 -- turns are accepted, which have no checks but those of board, catalogue and desk
 abbrev pub Passes : Catalogue → Room → Type 0
-Passes catalogue room = perform catalogue (turns 0) room .answer .number ≡ 0
+Passes catalogue room = IsDone catalogue room (turns 0)
 
 pub passes-checks : (catalogue : Catalogue) (room : Room) → Passes catalogue room → Checked catalogue room
 passes-checks catalogue room passes = checked catalogue (turns 0) room (sym (perform-number catalogue (turns 0) room) ∙ passes) .0

@@ -1,7 +1,7 @@
 -- The small words (`Words` of the builds, the search and the runs).
 use Rattle.builds.proofs.Words.{satisfied, written, one-to, counting, adding, writing}
-use Rattle.search.proofs.Words.{bit, left, working}
-use Rattle.runs.proofs.Words.{own, seated, own-calls, asked}
+use Rattle.search.proofs.Words.{bit, working}
+use Rattle.runs.proofs.Words.{own, clinic, seated, own-calls, asked}
 use Rattle.promises.specs.Words.{Words}
 
 pub words : Words
@@ -9,9 +9,9 @@ words = record {
   satisfied = satisfied;
   written = written;
   own = own;
+  clinic = clinic;
   seated = seated;
   bit = bit;
-  left = left;
   working = working;
   own-calls = own-calls;
   asked = asked;

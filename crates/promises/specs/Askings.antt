@@ -20,7 +20,7 @@ use Rattle.runs.specs.declared.Reading.the-variants.{Options, Example}
 use Rattle.runs.specs.Room.{Room, clinicAt}
 use Rattle.runs.specs.Call.{asks}
 use Rattle.runs.specs.Perform.{perform}
-use Rattle.promises.specs.Moment.{seatIn}
+use Rattle.promises.specs.Moment.{IsDone, seatIn}
 use Rattle.promises.specs.Whole.{Whole}
 
 -- nothing but a state and choices: masks empty, nothing placed, a share full of 255
@@ -41,7 +41,7 @@ Posted = Fresh (AtWork (record { feature = 0; option = 0; depth = 0; next = 0 })
 
 -- an asking of seat c that is accepted leaves its clinic so
 abbrev pub Leaves : Catalogue → Asking → Room → ℕ → (Clinic → Type 0) → Type 0
-Leaves catalogue asking room c So = perform catalogue (asks c asking) room .answer .number ≡ 0
+Leaves catalogue asking room c So = IsDone catalogue room (asks c asking)
     → So (clinicAt (perform catalogue (asks c asking) room .room) c)
 
 pub record Askings (catalogue : Catalogue) (room : Room) (c : ℕ) : Type 0 where
@@ -50,11 +50,11 @@ pub record Askings (catalogue : Catalogue) (room : Room) (c : ℕ) : Type 0 wher
   pub relaxed : (i : ℕ) → Leaves catalogue (Relax i) room c (Posted (set (seatIn room c .choices) i 255))
   pub closed : Leaves catalogue Leave room c Blank
   -- options left: the mask of one feature and how many bits are set in it; example: the sixteen bytes as they stand
-  pub options : (i : ℕ) → perform catalogue (asks c (Read (Options i))) room .answer .number ≡ 0
-      → let mask = getD (seatIn room c .masks) i 0 in let count = sum (map (λ (a : ℕ). cond (hasBit mask a) 1 0) (countFrom 0 16)) in
+  pub options : (i : ℕ) → IsDone catalogue room (asks c (Read (Options i))) → let mask = getD (seatIn room c .masks) i 0 in
+      let count = sum (map (λ (a : ℕ). cond (hasBit mask a) 1 0) (countFrom 0 16)) in
       perform catalogue (asks c (Read (Options i))) room .answer
       ≡ record { number = 0; mask = mask; count = count; bytes = []; made = 0; working = false }
-  pub example : (i a : ℕ) → perform catalogue (asks c (Read (Example i a))) room .answer .number ≡ 0
+  pub example : (i a : ℕ) → IsDone catalogue room (asks c (Read (Example i a)))
       → let bytes = take 16 (drop (c * 4096 + i * 256 + a * 16) (room .board)) in
       perform catalogue (asks c (Read (Example i a))) room .answer
       ≡ record { number = 0; mask = 0; count = 0; bytes = bytes; made = 0; working = false }

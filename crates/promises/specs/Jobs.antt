@@ -20,7 +20,7 @@ use Rattle.runs.specs.Room.{Room, clinicAt}
 use Rattle.runs.specs.Call.{Call, asks, isOf}
 use Rattle.runs.specs.Perform.{perform}
 use Rattle.runs.specs.Run.{afterCalls, turnsAsked, stepsIn}
-use Rattle.promises.specs.Moment.{moment, Opened, seatIn}
+use Rattle.promises.specs.Moment.{moment, Opened, IsDone, seatIn}
 use Rattle.promises.specs.Askings.{Blank}
 
 -- the askings that post a job
@@ -55,13 +55,13 @@ pub record Job (catalogue : Catalogue) (room : Room) (c : ℕ) : Type 0 where
 
 abbrev pub EveryJob : Type 0
 EveryJob = (catalogue : Catalogue) (board : List ℕ) → Opened catalogue board → (before : List Call) (c : ℕ) → c < 8
-    → (asking : Asking) → PostsJob asking → perform catalogue (asks c asking) (moment catalogue board before) .answer .number ≡ 0
+    → (asking : Asking) → PostsJob asking → IsDone catalogue (moment catalogue board before) (asks c asking)
     → Job catalogue (perform catalogue (asks c asking) (moment catalogue board before) .room) c
 
 -- At every moment a seat is blank, or at the job that it posted last.
 pub data Stands (catalogue : Catalogue) (board : List ℕ) (c : ℕ) : List Call → Type 0 where
   blank : {calls : List Call} → Blank (clinicAt (moment catalogue board calls) c) → Stands catalogue board c calls
   at-its-job : (before after : List Call) (asking : Asking) → PostsJob asking
-      → perform catalogue (asks c asking) (moment catalogue board before) .answer .number ≡ 0
+      → IsDone catalogue (moment catalogue board before) (asks c asking)
       → Quiet catalogue c (perform catalogue (asks c asking) (moment catalogue board before) .room) after
       → Stands catalogue board c (before ++ asks c asking ∷ after)

@@ -8,7 +8,7 @@ use Rattle.builds.specs.Catalogue.{Catalogue}
 use Rattle.search.specs.declared.Seat.{Seat}
 use Rattle.runs.specs.Room.{Room, seatAt}
 use Rattle.runs.specs.Call.{Call}
-use Rattle.runs.specs.Perform.{opening}
+use Rattle.runs.specs.Perform.{perform, opening}
 use Rattle.runs.specs.Run.{afterCalls}
 
 unfoldable pub moment : Catalogue → List ℕ → List Call → Room
@@ -17,6 +17,10 @@ moment catalogue board calls = afterCalls catalogue calls (opening catalogue boa
 -- the board and the catalogue were accepted at the opening
 abbrev pub Opened : Catalogue → List ℕ → Type 0
 Opened catalogue board = opening catalogue board .answer .number ≡ 0
+
+-- a call is accepted: its number is 0
+abbrev pub IsDone : Catalogue → Room → Call → Type 0
+IsDone catalogue room call = perform catalogue call room .answer .number ≡ 0
 
 -- seat c at a moment
 abbrev pub seatIn : Room → ℕ → Seat

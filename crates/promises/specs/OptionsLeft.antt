@@ -1,13 +1,13 @@
 -- Demand 2. When a clinic's seat is ready, an option is shown as left exactly when some complete build satisfies every
 -- rule and every choice now in force and contains that option. Beside each such option stands the first such build in
 -- dictionary order.
-use Prim.Native.Nat.{ℕ, _<_}
+use Prim.Native.Nat.{ℕ, _-_, _<_}
 use mathlib.Core.Path.{_≡_}
 use mathlib.Core.Bool.{Bool, true}
-use mathlib.Core.List.{List}
+use mathlib.Core.List.{List, _++_}
 use lib.ListN.{length, replicate}
 use Rattle.builds.specs.Catalogue.{Catalogue, sizeOf}
-use Rattle.builds.specs.Build.{FirstWith, padded}
+use Rattle.builds.specs.Build.{FirstWith}
 use Rattle.builds.specs.Gic.{GicClosure}
 use Rattle.search.specs.declared.State.the-variants.{Ready}
 use Rattle.search.specs.Bits.{hasBit}
@@ -29,7 +29,7 @@ pub record Seen (catalogue : Catalogue) (room : Room) (c : ℕ) : Type 0 where
   pub left-exactly : GicClosure catalogue (seatIn room c .choices) (isShown catalogue room c)
   pub first-beside : (i a : ℕ) → i < length (catalogue .sizes) → isShown catalogue room c i a ≡ true
       → (build : List ℕ) × FirstWith catalogue (seatIn room c .choices) i a build
-      × (perform catalogue (asks c (Read (Example i a))) room .answer .bytes ≡ padded build)
+      × (perform catalogue (asks c (Read (Example i a))) room .answer .bytes ≡ build ++ replicate (16 - length build) 255)
   pub none-beside : (i a : ℕ) → i < length (catalogue .sizes) → a < sizeOf catalogue i → (isShown catalogue room c i a ≡ true → ⊥)
       → (perform catalogue (asks c (Read (Example i a))) room .answer .number ≡ 37)
       × (exampleIn (shareAt (room .board) c) i a ≡ replicate 16 255)

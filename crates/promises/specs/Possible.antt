@@ -9,12 +9,8 @@ use Rattle.search.specs.declared.State.the-variants.{Closed, Ready}
 use Rattle.runs.specs.declared.Asking.the-variants.{Enter, Leave, Choose, Relax, Read}
 use Rattle.runs.specs.declared.Reading.the-variants.{Options, Example}
 use Rattle.runs.specs.Room.{Room}
-use Rattle.runs.specs.Call.{Call, asks, turns}
-use Rattle.runs.specs.Perform.{perform}
-use Rattle.promises.specs.Moment.{seatIn}
-
-abbrev pub IsDone : Catalogue → Room → Call → Type 0
-IsDone catalogue room call = perform catalogue call room .answer .number ≡ 0
+use Rattle.runs.specs.Call.{asks, turns}
+use Rattle.promises.specs.Moment.{IsDone, seatIn}
 
 pub record WhenReady (catalogue : Catalogue) (room : Room) (c i : ℕ) : Type 0 where
   pub options : IsDone catalogue room (asks c (Read (Options i)))

@@ -17,7 +17,7 @@ use Rattle.runs.specs.Room.{Room, clinicAt}
 use Rattle.runs.specs.Call.{turns}
 use Rattle.runs.specs.Turn.{stepsGiven}
 use Rattle.runs.specs.Perform.{Outcome, perform}
-use Rattle.promises.specs.Moment.{seatIn}
+use Rattle.promises.specs.Moment.{IsDone, seatIn}
 use Rattle.promises.specs.Whole.{Whole}
 
 -- seat c is the first at work from next upward around the ring: so many seats on, and all before it are not at work
@@ -30,7 +30,7 @@ pub record FirstAtWork (room : Room) (c : ℕ) : Type 0 where
 
 pub record OneTurn (catalogue : Catalogue) (room : Room) (after : Outcome) : Type 0 where
   pub gives-one-step : (c : ℕ) → FirstAtWork room c → clinicAt (after .room) c ≡ step catalogue (clinicAt room c)
-  pub leaves-the-others : (c : ℕ) → FirstAtWork room c → (d : ℕ) → d < 8 → (d ≡ c → ⊥) → clinicAt (after .room) d ≡ clinicAt room d
+  pub leaves-the-others : (c d : ℕ) → FirstAtWork room c → d < 8 → (d ≡ c → ⊥) → clinicAt (after .room) d ≡ clinicAt room d
   pub moves-next-on : (c : ℕ) → FirstAtWork room c → after .room .desk .next ≡ (c + 1) % 8
   pub is-counted : (c : ℕ) → FirstAtWork room c → after .answer .made ≡ 1
   pub finds-nobody : ((c : ℕ) → c < 8 → isAtWork (seatIn room c .state) ≡ false) → (after .room ≡ room) × (after .answer .made ≡ 0)
@@ -47,8 +47,8 @@ pub record Turns (catalogue : Catalogue) (room : Room) : Type 0 where
   pub no-turn : (perform catalogue (turns 0) room .room ≡ room) × (perform catalogue (turns 0) room .answer .made ≡ 0)
   pub one-turn : OneTurn catalogue room (perform catalogue (turns 1) room)
   -- turns(u + v) is turns(u), then turns(v)
-  pub more-turns : (u v : ℕ) → let before = perform catalogue (turns u) room in let more = perform catalogue (turns v) (before .room) in
-      let all = perform catalogue (turns (u + v)) room in
+  pub more-turns : (u v : ℕ) → let before = perform catalogue (turns u) room in
+      let more = perform catalogue (turns v) (before .room) in let all = perform catalogue (turns (u + v)) room in
       (all .room ≡ more .room) × (all .answer .made ≡ before .answer .made + more .answer .made)
   -- the step that a seat at work makes when it is served is by the five rules
   pub each-step : (c : ℕ) → c < 8 → (p : Place) → seatIn room c .state ≡ AtWork p
@@ -57,4 +57,4 @@ pub record Turns (catalogue : Catalogue) (room : Room) : Type 0 where
 
 -- where board, catalogue and desk pass their checks, 1 to 20: turns, which have no others, are accepted
 abbrev pub EveryTurns : Type 0
-EveryTurns = (catalogue : Catalogue) (room : Room) → Whole room → perform catalogue (turns 0) room .answer .number ≡ 0 → Turns catalogue room
+EveryTurns = (catalogue : Catalogue) (room : Room) → Whole room → IsDone catalogue room (turns 0) → Turns catalogue room

@@ -8,16 +8,15 @@ use lib.ListN.{length, getD, take, drop}
 use Rattle.builds.specs.Lists.{OneTo, countFrom, sum, put}
 use Rattle.builds.specs.Rule.{Rule, optionAt, satisfies}
 use Rattle.builds.specs.Format.{ruleWritten}
-use Rattle.search.specs.declared.Seat.{Seat}
 use Rattle.search.specs.declared.Place.{Place}
 use Rattle.search.specs.declared.State.{State}
 use Rattle.search.specs.declared.State.the-variants.{AtWork}
 use Rattle.search.specs.Bits.{hasBit}
-use Rattle.search.specs.Look.{isAtWork, isLeft}
+use Rattle.search.specs.Look.{isAtWork}
 use Rattle.search.specs.Clinic.{noSeat}
 use Rattle.runs.specs.declared.Desk.{Desk}
 use Rattle.runs.specs.declared.Asking.{Asking}
-use Rattle.runs.specs.Room.{Room, seatAt, clinicAt}
+use Rattle.runs.specs.Room.{Room, seatAt, shareAt, clinicAt}
 use Rattle.runs.specs.Call.{asks, turns, isOf}
 use Rattle.runs.specs.Run.{turnsAsked}
 
@@ -29,12 +28,11 @@ pub record Words : Type 0 where
   pub written : (rule : Rule)
       → ruleWritten rule ≡ length (rule .features) ∷ length (rule .rows) ∷ (rule .features ++ flatten (rule .rows))
   -- seat c owns the 4,096 bytes from c × 4,096
-  pub own : (room : Room) (c : ℕ)
-      → clinicAt room c ≡ record { seat = getD (room .desk .seats) c noSeat; share = take 4096 (drop (c * 4096) (room .board)) }
+  pub own : (board : List ℕ) (c : ℕ) → shareAt board c ≡ take 4096 (drop (c * 4096) board)
+  pub clinic : (room : Room) (c : ℕ) → clinicAt room c ≡ record { seat = seatAt (room .desk) c; share = shareAt (room .board) c }
   pub seated : (desk : Desk) (c : ℕ) → seatAt desk c ≡ getD (desk .seats) c noSeat
   -- bit a for option a
   pub bit : (mask a : ℕ) → (hasBit mask a ≡ true) ↔ (mask / 2 ^ a % 2 ≡ 1)
-  pub left : (seat : Seat) (i a : ℕ) → isLeft seat i a ≡ hasBit (getD (seat .masks) i 0) a
   pub working : (state : State) → (isAtWork state ≡ true) ↔ ((p : Place) × (state ≡ AtWork p))
   -- a clinic's calls are those that name its seat
   pub own-calls : (c d : ℕ) (asking : Asking) (w : ℕ) → ((isOf c (asks d asking) ≡ true) ↔ (c ≡ d)) × (isOf c (turns w) ≡ false)

@@ -63,8 +63,8 @@ pub record Lent : Type 0 where
   pub left-is : (outcome : Outcome) (room : Room) (left : Left) → ReadsAs outcome room left
       → (left .number ≡ outcome .answer .number) × (left .mask ≡ outcome .answer .mask) × (left .count ≡ outcome .answer .count)
   pub turned-is : (outcome : Outcome) (turned : Turned) (board : List ℕ) → TurnsTo outcome turned board
-      → (turned .number ≡ outcome .answer .number) × (turned .made ≡ outcome .answer .made) × (turned .working ≡ outcome .answer .working)
-      × (turned .desk ≡ outcome .room .desk) × (board ≡ outcome .room .board)
+      → (turned .number ≡ outcome .answer .number) × (turned .made ≡ outcome .answer .made)
+      × (turned .working ≡ outcome .answer .working) × (turned .desk ≡ outcome .room .desk) × (board ≡ outcome .room .board)
   pub bytes-are : (outcome : Outcome) (bytes : List ℕ) → BytesAre outcome bytes → bytes ≡ outcome .answer .bytes
   pub number-is : (outcome : Outcome) (number : ℕ) → NumberIs outcome number → number ≡ outcome .answer .number
   -- in seat c's share, at feature i and option a; refused, at the board's beginning

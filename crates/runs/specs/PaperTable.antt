@@ -67,9 +67,10 @@ pub data Sentence (catalogue : Catalogue) (room : Room) : Call → ℕ → Type 
   no-such-option : {c i a : ℕ} {asking : Asking} → NamesOption asking i a → sizeOf catalogue i ≤ a
       → Sentence catalogue room (asks c asking) 35
   -- 36: feature has a choice (choose)
-  has-a-choice : {c i a : ℕ} → (getD (seatAt (room .desk) c .choices) i 255 ≡ 255 → ⊥) → Sentence catalogue room (asks c (Choose i a)) 36
+  has-a-choice : {c i a : ℕ} → (getD (seatAt (room .desk) c .choices) i 255 ≡ 255 → ⊥)
+      → Sentence catalogue room (asks c (Choose i a)) 36
   -- 37: option not left (choose, example)
-  not-left : {c i a : ℕ} {asking : Asking} → NamesOption asking i a → (hasBit (getD (seatAt (room .desk) c .masks) i 0) a ≡ true → ⊥)
-      → Sentence catalogue room (asks c asking) 37
+  not-left : {c i a : ℕ} {asking : Asking} → NamesOption asking i a
+      → (hasBit (getD (seatAt (room .desk) c .masks) i 0) a ≡ true → ⊥) → Sentence catalogue room (asks c asking) 37
   -- 38: feature has no choice (relax)
   no-choice : {c i : ℕ} → getD (seatAt (room .desk) c .choices) i 255 ≡ 255 → Sentence catalogue room (asks c (Relax i)) 38

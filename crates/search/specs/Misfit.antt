@@ -8,7 +8,7 @@ use Rattle.builds.specs.Catalogue.{Catalogue, sizeOf}
 use Rattle.search.specs.declared.Seat.{Seat}
 use Rattle.search.specs.declared.Place.{Place}
 use Rattle.search.specs.declared.State.the-variants.{Closed, AtWork}
-use Rattle.search.specs.Look.{isLeft}
+use Rattle.search.specs.Bits.{hasBit}
 
 -- Where a clause asks "(f < length …) → …", a missing feature meets it: it has no option. Where a seat isn't at work, every
 -- trial entry is one of "any other".
@@ -17,7 +17,8 @@ pub data Misfit (catalogue : Catalogue) (seat : Seat) : Type 0 where
   choice : (f : ℕ) → f < 16 → (getD (seat .choices) f 255 ≡ 255 → ⊥)
       → (f < length (catalogue .sizes) → sizeOf catalogue f ≤ getD (seat .choices) f 255) → Misfit catalogue seat
   -- a mask bit not below the size, or any bit for a missing feature
-  mask-bit : (f a : ℕ) → f < 16 → isLeft seat f a ≡ true → (f < length (catalogue .sizes) → sizeOf catalogue f ≤ a) → Misfit catalogue seat
+  mask-bit : (f a : ℕ) → f < 16 → hasBit (getD (seat .masks) f 0) a ≡ true
+      → (f < length (catalogue .sizes) → sizeOf catalogue f ≤ a) → Misfit catalogue seat
   -- a place at work with i or j not a feature, a not below the size of i or v not below the size of j
   feature-of-place : {p : Place} → seat .state ≡ AtWork p → length (catalogue .sizes) ≤ p .feature → Misfit catalogue seat
   depth-of-place : {p : Place} → seat .state ≡ AtWork p → length (catalogue .sizes) ≤ p .depth → Misfit catalogue seat
@@ -30,4 +31,4 @@ pub data Misfit (catalogue : Catalogue) (seat : Seat) : Type 0 where
       → Misfit catalogue seat
   -- a closed seat with a choice or a mask bit
   closed-choice : (f : ℕ) → seat .state ≡ Closed → f < 16 → (getD (seat .choices) f 255 ≡ 255 → ⊥) → Misfit catalogue seat
-  closed-mask-bit : (f a : ℕ) → seat .state ≡ Closed → f < 16 → isLeft seat f a ≡ true → Misfit catalogue seat
+  closed-mask-bit : (f a : ℕ) → seat .state ≡ Closed → f < 16 → hasBit (getD (seat .masks) f 0) a ≡ true → Misfit catalogue seat
