@@ -2,7 +2,7 @@
 use Prim.Native.Nat.{ℕ, suc, _+_, _≤_}
 use mathlib.Core.Path.{_≡_, refl, sym}
 use mathlib.Core.Logic.{_↔_, ⊎-elim}
-use mathlib.Core.Bool.{Bool, true, false, _||_, true≢false, and-eq-true-iff}
+use mathlib.Core.Bool.{Bool, true, false, _||_, true≢false, or-true, and-eq-true-iff}
 use mathlib.Core.List.{List, [], _∷_, _++_, map, flatten, List·Memᴰ, List·Memᴰ·head, List·Memᴰ·tail, List·Memᴰ·cases-cons, List·Memᴰ·not-nil}
 use lib.ListN.{length, take, drop}
 use lib.Dec.{eqb}
@@ -26,10 +26,6 @@ matches-itself : (row : List ℕ) → matches row row ≡ true
 unfolding matches
 matches-itself [] = refl
 matches-itself (r ∷ rs) = rw (eq-eqb r r refl) (matches-itself rs)
-
-or-true : (t : Bool) → t || true ≡ true
-or-true true = refl
-or-true false = refl
 
 some-row : (rows : List (List ℕ)) (options : List ℕ) → (someRow rows options ≡ true) ↔ List·Memᴰ options rows
 unfolding someRow

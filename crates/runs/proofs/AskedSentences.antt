@@ -19,24 +19,24 @@ use Rattle.runs.specs.PaperTable.{NamesFeature, NamesOption, Sentence}
 use Rattle.runs.proofs.FirstOf.{Rising}
 use Rattle.runs.proofs.RowsInWords.{seat-rise, given-31, given-33, given-34, given-35, given-37}
 
-abbrev isEnter : Asking → Bool
+abbrev pub isEnter : Asking → Bool
 isEnter Enter = true
 isEnter Leave = false
 isEnter (Choose i a) = false
 isEnter (Relax i) = false
 isEnter (Read reading) = false
 
-abbrev isLeave : Asking → Bool
+abbrev pub isLeave : Asking → Bool
 isLeave Enter = false
 isLeave Leave = true
 isLeave (Choose i a) = false
 isLeave (Relax i) = false
 isLeave (Read reading) = false
 
-not-enter : {asking : Asking} → isEnter asking ≡ false → asking ≡ Enter → ⊥
+pub not-enter : {asking : Asking} → isEnter asking ≡ false → asking ≡ Enter → ⊥
 not-enter other e = false≢true (sym other ∙ ap isEnter e)
 
-not-leave : {asking : Asking} → isLeave asking ≡ false → asking ≡ Leave → ⊥
+pub not-leave : {asking : Asking} → isLeave asking ≡ false → asking ≡ Leave → ⊥
 not-leave other e = false≢true (sym other ∙ ap isLeave e)
 
 -- of a row that isn't listed nothing is to be said

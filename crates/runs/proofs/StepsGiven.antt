@@ -23,7 +23,7 @@ use Rattle.runs.proofs.TurnsAdded.{turns-performed}
 use Rattle.runs.proofs.IdleTurns.{idle-turn}
 
 module _ (catalogue : Catalogue) (fault : faultOf catalogue ≡ 0) (c : ℕ) where
-  one-turn : (room : Room) → Sound catalogue room
+  pub one-turn : (room : Room) → Sound catalogue room
       → clinicAt (turn catalogue room) c ≡ steps catalogue (cond (is c (served (room .desk))) 1 0) (clinicAt room c)
   unfolding steps
   one-turn room sound = go (served (room .desk)) refl

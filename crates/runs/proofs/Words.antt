@@ -21,10 +21,12 @@ use Rattle.runs.specs.Run.{turnsAsked}
 use Rattle.runs.specs.Answers.{ChangesTo, ReadsAs, TurnsTo, exampleBegins, BytesAre, BeginsAt, NumberIs, Lent}
 
 -- seat c owns the 4,096 bytes from c × 4,096
-pub own : (room : Room) (c : ℕ)
-    → clinicAt room c ≡ record { seat = getD (room .desk .seats) c noSeat; share = take 4096 (drop (c * 4096) (room .board)) }
+pub own : (board : List ℕ) (c : ℕ) → shareAt board c ≡ take 4096 (drop (c * 4096) board)
 unfolding shareAt
-own room c = refl
+own board c = refl
+
+pub clinic : (room : Room) (c : ℕ) → clinicAt room c ≡ record { seat = seatAt (room .desk) c; share = shareAt (room .board) c }
+clinic room c = refl
 
 pub seated : (desk : Desk) (c : ℕ) → seatAt desk c ≡ getD (desk .seats) c noSeat
 seated desk c = refl

@@ -3,7 +3,7 @@
 use Prim.Native.Nat.{ℕ, max, _≤_}
 use mathlib.Core.Path.{_≡_, refl}
 use mathlib.Core.Logic.{_↔_}
-use mathlib.Core.Bool.{Bool, true, false, _||_}
+use mathlib.Core.Bool.{Bool, true, false, _||_, or-true}
 use mathlib.Core.List.{List, [], _∷_}
 use native.Mathlib.Omega.{arith}
 use lib.ListN.{length}
@@ -43,10 +43,6 @@ unfolding highest member
 highest-member f [] = let only : max f 0 ≡ f = omega arith in rw (eq-eqb (max f 0) f only) refl
 highest-member f (g ∷ features) = go (ltb f (highest (g ∷ features))) refl (highest-member g features)
   where
-    or-true : (t : Bool) → (t || true) ≡ true
-    or-true true = refl
-    or-true false = refl
-
     go : (t : Bool) → ltb f (highest (g ∷ features)) ≡ t → member (highest (g ∷ features)) (g ∷ features) ≡ true
         → member (max f (highest (g ∷ features))) (f ∷ g ∷ features) ≡ true
     go true e later =

@@ -22,29 +22,9 @@ use Rattle.runs.specs.Room.{Room, seatAt}
 use Rattle.runs.specs.Call.{asks, turns}
 use Rattle.runs.specs.Perform.{perform}
 use Rattle.runs.specs.PaperTable.{FirstOf, OpenSentence, NamesOption, NamesFeature, Sentence}
+use Rattle.runs.proofs.AskedSentences.{isEnter, isLeave, not-enter, not-leave}
 use Rattle.promises.specs.Refusals.{Refusals}
 use Rattle.trials.proofs.NoEarlier.{also-not, below-30, at-30, at-31, at-32, at-33, at-34, at-35, at-36, at-37, choose-names, choose-feature, example-names, example-feature, relax-feature, relax-no-option, relax-no-choose, example-no-choose}
-
--- what kind of asking it is
-abbrev pub isEnter : Asking → Bool
-isEnter Enter = true
-isEnter Leave = false
-isEnter (Choose i a) = false
-isEnter (Relax i) = false
-isEnter (Read reading) = false
-
-abbrev pub isLeave : Asking → Bool
-isLeave Enter = false
-isLeave Leave = true
-isLeave (Choose i a) = false
-isLeave (Relax i) = false
-isLeave (Read reading) = false
-
-no-enter : {asking : Asking} → isEnter asking ≡ false → asking ≡ Enter → ⊥
-no-enter other e = false≢true (sym other ∙ ap isEnter e)
-
-no-leave : {asking : Asking} → isLeave asking ≡ false → asking ≡ Leave → ⊥
-no-leave other e = false≢true (sym other ∙ ap isLeave e)
 
 -- sizes of the smallest catalogue: one feature, of one option
 one : length (single .sizes) ≡ 1
@@ -100,7 +80,7 @@ module _ (refusals : Refusals) (room : Room) (passes : perform single (turns 0) 
       → perform single (asks c asking) room .answer .number ≡ 31
   gives-31 asking other closed =
       refusals .by-the-paper single (asks c asking) room 31 .1
-      (FirstOf.first-sentence (Sentence.seat-closed (no-enter other) closed) to-31)
+      (FirstOf.first-sentence (Sentence.seat-closed (not-enter other) closed) to-31)
 
   pub gives-32 : (seatAt (room .desk) c .state ≡ Closed → ⊥) → perform single (asks c Enter) room .answer .number ≡ 32
   gives-32 entered =
@@ -112,14 +92,14 @@ module _ (refusals : Refusals) (room : Room) (passes : perform single (turns 0) 
       → (r : ℕ) → r < 33 → Sentence single room (asks c asking) r → ⊥
   to-33 other entered =
       also-not 32 (also-not 31 to-31 (λ s. entered (at-31 refusals single room passes s .1)))
-      (λ s. no-enter other (at-32 refusals single room passes s .0))
+      (λ s. not-enter other (at-32 refusals single room passes s .0))
 
   pub gives-33 : (asking : Asking) (p : Place) → isEnter asking ≡ false → isLeave asking ≡ false
       → seatAt (room .desk) c .state ≡ AtWork p
       → perform single (asks c asking) room .answer .number ≡ 33
   gives-33 asking p other₁ other₂ at-work =
       refusals .by-the-paper single (asks c asking) room 33 .1
-      (FirstOf.first-sentence (Sentence.seat-at-work (no-enter other₁) (no-leave other₂) at-work)
+      (FirstOf.first-sentence (Sentence.seat-at-work (not-enter other₁) (not-leave other₂) at-work)
       (to-33 other₁ (λ closed. false≢true (ap isClosed (sym at-work ∙ closed)))))
 
   -- and the other way: what is given 33 is asked of a seat at work

@@ -20,8 +20,7 @@ use Rattle.runs.specs.declared.Reading.the-variants.{Options, Example}
 use Rattle.runs.specs.Call.{Call, asks, turns}
 use Rattle.runs.specs.Perform.{perform}
 use Rattle.runs.proofs.Computing.{computing}
-use Rattle.promises.specs.Moment.{moment, Opened, seatIn}
-use Rattle.promises.specs.Possible.{IsDone}
+use Rattle.promises.specs.Moment.{moment, Opened, seatIn, IsDone}
 use Rattle.promises.specs.Throughout.{EveryMoment, AtAMoment}
 use Rattle.promises.proofs.Throughout.{every-moment as proved-every-moment}
 use Rattle.trials.proofs.Runs.{board, opens, opens-single, chosen, ready-single, is-ready-single, one-feature, entered-single, chosen-single}

@@ -53,7 +53,7 @@ module _ (demand : EveryTurns) where
 
   waits : clinicAt (perform trolley (turns 1) served-room .room) 3 ≡ clinicAt served-room 3
   waits =
-      demand trolley served-room (whole served) (passes served) .one-turn .leaves-the-others 5 fifth-first 3 (lit< tt)
+      demand trolley served-room (whole served) (passes served) .one-turn .leaves-the-others 5 3 fifth-first (lit< tt)
       (λ (e : 3 ≡ 5). omega (arith, e))
 
   next-is-6 : perform trolley (turns 1) served-room .room .desk .next ≡ 6

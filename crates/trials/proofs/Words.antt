@@ -10,8 +10,7 @@ use Rattle.builds.specs.Rule.{Rule}
 use Rattle.builds.specs.Format.{ruleWritten}
 use Rattle.search.specs.declared.Place.{Place}
 use Rattle.search.specs.declared.State.the-variants.{AtWork}
-use Rattle.search.specs.Bits.{hasBit}
-use Rattle.search.specs.Look.{isAtWork, isLeft}
+use Rattle.search.specs.Look.{isAtWork}
 use Rattle.search.specs.Clinic.{Clinic, closedSeat}
 use Rattle.search.specs.Trolley.{trolley}
 use Rattle.runs.specs.declared.Asking.the-variants.{Enter}
@@ -37,7 +36,8 @@ module _ (demand : Words) where
   row-found = demand .satisfied (1 ∷ 2 ∷ 0 ∷ []) twoRows .0 refl
 
   share-of-3 : clinicAt (moment trolley board []) 3 .share ≡ take 4096 (drop 12288 (moment trolley board [] .board))
-  share-of-3 = ap (λ (clinic : Clinic). clinic .share) (demand .own (moment trolley board []) 3)
+  share-of-3 =
+      ap (λ (clinic : Clinic). clinic .share) (demand .clinic (moment trolley board []) 3) ∙ demand .own (moment trolley board [] .board) 3
 
   list-written : ruleWritten twoRows ≡ 2 ∷ 2 ∷ 1 ∷ 0 ∷ 0 ∷ 1 ∷ 2 ∷ 1 ∷ []
   unfolding twoRows flatten
@@ -49,9 +49,6 @@ module _ (demand : Words) where
 
   bit-2 : 5 / 2 ^ 2 % 2 ≡ 1
   bit-2 = demand .bit 5 2 .0 refl
-
-  nothing-left : isLeft closedSeat 4 1 ≡ hasBit 0 1
-  nothing-left = demand .left closedSeat 4 1
 
   working-there : isAtWork (AtWork place) ≡ true
   working-there = demand .working (AtWork place) .1 (place, refl)
