@@ -21,3 +21,4 @@ pub mod Padded
 pub mod Dictionary
 pub mod Instantiations
 pub mod ListedBuilds
+pub mod Alternatives

@@ -8,5 +8,6 @@ pub mod Format
 pub mod FaultMet
 pub mod Build
 pub mod Gic
+pub mod Alternative
 pub mod ListedBuilds
 pub mod inner

@@ -12,7 +12,7 @@ use Rattle.search.specs.declared.State.the-variants.{Closed}
 use Rattle.search.specs.Bits.{hasBit, bitsSet}
 use Rattle.runs.specs.declared.Asking.the-variants.{Read}
 use Rattle.runs.specs.declared.Reading.{Reading}
-use Rattle.runs.specs.declared.Reading.the-variants.{Options, Example}
+use Rattle.runs.specs.declared.Reading.the-variants.{Options, Alternatives, Example}
 use Rattle.runs.specs.Room.{Room, seatAt}
 use Rattle.runs.specs.Call.{asks, Answer}
 use Rattle.runs.specs.RefusalTable.{refusal, openRefusal}
@@ -31,7 +31,13 @@ closed-either-way (suc r) room outcome same = same
 
 module _ (catalogue : Catalogue) (board : List ℕ) where
   pub open-closed : opening catalogue board .room .desk ≡ record {
-    seats = replicate 8 (record { state = Closed; choices = replicate 16 255; masks = replicate 16 0; trial = replicate 16 255 });
+    seats = replicate 8 (record {
+      state = Closed;
+      choices = replicate 16 255;
+      masks = replicate 16 0;
+      trial = replicate 16 255;
+      alternatives = replicate 16 0;
+    });
     next = 0;
   }
   unfolding opening
@@ -41,8 +47,9 @@ module _ (catalogue : Catalogue) (board : List ℕ) where
   open-filled e =
       ap (λ (o : Outcome). o .room .board) (opening-accepted catalogue board (sym (opening-number catalogue board) ∙ e))
 
-abbrev maskAnswer : ℕ → Answer
-maskAnswer mask = record { number = 0; mask = mask; count = sum (map (λ (a : ℕ). cond (hasBit mask a) 1 0) (countFrom 0 16)); bytes = []; made = 0; working = false }
+-- a mask, and how many bits are set in it, literally
+abbrev maskOnly : ℕ → Answer
+maskOnly mask = record { number = 0; mask = mask; count = sum (map (λ (a : ℕ). cond (hasBit mask a) 1 0) (countFrom 0 16)); bytes = []; made = 0; working = false }
 
 abbrev bytesAnswer : List ℕ → Answer
 bytesAnswer bytes = record { number = 0; mask = 0; count = 0; bytes = bytes; made = 0; working = false }
@@ -56,10 +63,17 @@ module _ (catalogue : Catalogue) (room : Room) (c : ℕ) where
   not-refused reading e = sym (perform-number catalogue (asks c (Read reading)) room) ∙ e
 
   pub options-answered : (i : ℕ) → answered (Options i) .number ≡ 0
-      → answered (Options i) ≡ maskAnswer (getD (seatAt (room .desk) c .masks) i 0)
+      → answered (Options i) ≡ maskOnly (getD (seatAt (room .desk) c .masks) i 0)
   unfolding done bitsSet
   options-answered i e =
       ap (λ (o : Outcome). o .answer) (perform-accepted catalogue (asks c (Read (Options i))) room (not-refused (Options i) e))
+
+  pub alternatives-answered : (i : ℕ) → answered (Alternatives i) .number ≡ 0
+      → answered (Alternatives i) ≡ maskOnly (getD (seatAt (room .desk) c .alternatives) i 0)
+  unfolding done bitsSet
+  alternatives-answered i e =
+      ap (λ (o : Outcome). o .answer)
+      (perform-accepted catalogue (asks c (Read (Alternatives i))) room (not-refused (Alternatives i) e))
 
   pub example-answered : (i a : ℕ) → answered (Example i a) .number ≡ 0
       → answered (Example i a) ≡ bytesAnswer (take 16 (drop (c * 4096 + i * 256 + a * 16) (room .board)))

@@ -11,13 +11,13 @@ use Rattle.search.specs.declared.State.the-variants.{Closed, AtWork}
 use Rattle.search.specs.Bits.{hasBit}
 use Rattle.runs.specs.declared.Asking.{Asking}
 use Rattle.runs.specs.declared.Asking.the-variants.{Enter, Leave, Choose, Relax, Read}
-use Rattle.runs.specs.declared.Reading.the-variants.{Options, Example}
+use Rattle.runs.specs.declared.Reading.the-variants.{Options, Alternatives, Example}
 use Rattle.runs.specs.Room.{Room, seatAt}
 use Rattle.runs.specs.Call.{asks}
 use Rattle.runs.specs.RefusalTable.{askedRows}
-use Rattle.runs.specs.PaperTable.{NamesFeature, NamesOption, Sentence}
+use Rattle.runs.specs.PaperTable.{NamesFeature, NamesChoice, NamesOption, Sentence}
 use Rattle.runs.proofs.FirstOf.{Rising}
-use Rattle.runs.proofs.RowsInWords.{seat-rise, given-31, given-33, given-34, given-35, given-37}
+use Rattle.runs.proofs.RowsInWords.{seat-rise, given-31, given-33, given-34, given-35, given-37, given-38}
 
 abbrev pub isEnter : Asking → Bool
 isEnter Enter = true
@@ -67,12 +67,16 @@ module _ (catalogue : Catalogue) (room : Room) (c : ℕ) where
       (λ l. Sentence.not-left NamesOption.choose) no
   asked-rise (Relax i) =
       seat-rise _ (catalogue .sizes) (seatAt (room .desk) c) i 0
-      (λ l. closed refl) no (λ l. at-work refl refl) (λ l. Sentence.no-such-feature NamesFeature.relax)
-      no no no (λ l. Sentence.no-choice)
+      (λ l. closed refl) no (λ l. at-work refl refl) (λ l. Sentence.no-such-feature (NamesFeature.with-choice NamesChoice.relax))
+      no no no (λ l. Sentence.no-choice NamesChoice.relax)
   asked-rise (Read (Options i)) =
       seat-rise _ (catalogue .sizes) (seatAt (room .desk) c) i 0
       (λ l. closed refl) no (λ l. at-work refl refl) (λ l. Sentence.no-such-feature NamesFeature.options)
       no no no no
+  asked-rise (Read (Alternatives i)) =
+      seat-rise _ (catalogue .sizes) (seatAt (room .desk) c) i 0
+      (λ l. closed refl) no (λ l. at-work refl refl) (λ l. Sentence.no-such-feature (NamesFeature.with-choice NamesChoice.alternatives))
+      no no no (λ l. Sentence.no-choice NamesChoice.alternatives)
   asked-rise (Read (Example i a)) =
       seat-rise _ (catalogue .sizes) (seatAt (room .desk) c) i a
       (λ l. closed refl) no (λ l. at-work refl refl) (λ l. Sentence.no-such-feature (NamesFeature.with-option NamesOption.example))
@@ -86,6 +90,7 @@ module _ (sizes : List ℕ) (seat : Seat) where
   closed-given (Choose i a) other e = given-31 _ sizes seat i a refl e
   closed-given (Relax i) other e = given-31 _ sizes seat i 0 refl e
   closed-given (Read (Options i)) other e = given-31 _ sizes seat i 0 refl e
+  closed-given (Read (Alternatives i)) other e = given-31 _ sizes seat i 0 refl e
   closed-given (Read (Example i a)) other e = given-31 _ sizes seat i a refl e
 
   pub work-given : (asking : Asking) → (asking ≡ Enter → ⊥) → (asking ≡ Leave → ⊥)
@@ -95,13 +100,15 @@ module _ (sizes : List ℕ) (seat : Seat) where
   work-given (Choose i a) not-e not-l e = given-33 _ sizes seat i a refl e
   work-given (Relax i) not-e not-l e = given-33 _ sizes seat i 0 refl e
   work-given (Read (Options i)) not-e not-l e = given-33 _ sizes seat i 0 refl e
+  work-given (Read (Alternatives i)) not-e not-l e = given-33 _ sizes seat i 0 refl e
   work-given (Read (Example i a)) not-e not-l e = given-33 _ sizes seat i a refl e
 
   pub feature-given : {asking : Asking} {i : ℕ} → NamesFeature asking i → length sizes ≤ i
       → List·Memᴰ 34 (askedRows sizes seat asking)
   feature-given (NamesFeature.with-option (NamesOption.choose {i} {a})) l = given-34 _ sizes seat i a refl l
   feature-given (NamesFeature.with-option (NamesOption.example {i} {a})) l = given-34 _ sizes seat i a refl l
-  feature-given (NamesFeature.relax {i}) l = given-34 _ sizes seat i 0 refl l
+  feature-given (NamesFeature.with-choice (NamesChoice.relax {i})) l = given-34 _ sizes seat i 0 refl l
+  feature-given (NamesFeature.with-choice (NamesChoice.alternatives {i})) l = given-34 _ sizes seat i 0 refl l
   feature-given (NamesFeature.options {i}) l = given-34 _ sizes seat i 0 refl l
 
   pub option-given : {asking : Asking} {i a : ℕ} → NamesOption asking i a → getD sizes i 0 ≤ a
@@ -113,3 +120,8 @@ module _ (sizes : List ℕ) (seat : Seat) where
       → List·Memᴰ 37 (askedRows sizes seat asking)
   left-given (NamesOption.choose {i} {a}) h = given-37 _ sizes seat i a refl h
   left-given (NamesOption.example {i} {a}) h = given-37 _ sizes seat i a refl h
+
+  pub choice-given : {asking : Asking} {i : ℕ} → NamesChoice asking i → getD (seat .choices) i 255 ≡ 255
+      → List·Memᴰ 38 (askedRows sizes seat asking)
+  choice-given (NamesChoice.relax {i}) e = given-38 _ sizes seat i 0 refl e
+  choice-given (NamesChoice.alternatives {i}) e = given-38 _ sizes seat i 0 refl e

@@ -1,4 +1,5 @@
--- What the type of a desk tells of its value: there are eight seats, and sixteen choices, masks and trial entries in each.
+-- What the type of a desk tells of its value: there are eight seats, and sixteen choices, masks, trial entries and
+-- alternatives in each.
 use Prim.Native.Nat.{ℕ, zero, suc, _<_}
 use mathlib.Core.Path.{_≡_, sym, _∙_}
 use mathlib.Core.List.{List, [], _∷_, map}

@@ -26,8 +26,8 @@ use Rattle.runs.proofs.Tables.{openTable, table}
 use Rattle.runs.proofs.Performed.{perform-number, opening-number}
 use Rattle.runs.proofs.DeskMisfit.{desk-fails-iff}
 use Rattle.runs.proofs.FirstOf.{Rising, met-row, when-row, first-iff}
-use Rattle.runs.proofs.RowsInWords.{not-iff, eq-iff, given-32, given-36, given-38}
-use Rattle.runs.proofs.AskedSentences.{asked-rise, closed-given, work-given, feature-given, option-given, left-given}
+use Rattle.runs.proofs.RowsInWords.{not-iff, eq-iff, given-32, given-36}
+use Rattle.runs.proofs.AskedSentences.{asked-rise, closed-given, work-given, feature-given, option-given, left-given, choice-given}
 
 module _ (catalogue : Catalogue) where
   module _ (board : List ℕ) where
@@ -110,8 +110,8 @@ module _ (catalogue : Catalogue) where
         asked c (Choose i a) (omega arith) (given-36 _ (catalogue .sizes) (seatAt (room .desk) c) i a refl s)
     given e (Sentence.not-left {c} {i} {a} {asking} named s) =
         asked c asking (omega arith) (left-given (catalogue .sizes) (seatAt (room .desk) c) named s)
-    given e (Sentence.no-choice {c} {i} s) =
-        asked c (Relax i) (omega arith) (given-38 _ (catalogue .sizes) (seatAt (room .desk) c) i 0 refl s)
+    given e (Sentence.no-choice {c} {i} {asking} named s) =
+        asked c asking (omega arith) (choice-given (catalogue .sizes) (seatAt (room .desk) c) named s)
 
   pub by-the-paper : (call : Call) (room : Room) (r : ℕ)
       → (perform catalogue call room .answer .number ≡ r) ↔ FirstOf (Sentence catalogue room call) r

@@ -5,7 +5,7 @@ use mathlib.Core.Path.{_≡_, refl, ap}
 use mathlib.Core.List.{List}
 use Rattle.builds.specs.Catalogue.{Catalogue}
 use Rattle.search.specs.Clinic.{Clinic}
-use Rattle.runs.specs.declared.Reading.the-variants.{Options, Example}
+use Rattle.runs.specs.declared.Reading.the-variants.{Options, Alternatives, Example}
 use Rattle.runs.specs.Room.{Room, seatAt, clinicAt, freshDesk, emptyBoard}
 use Rattle.runs.specs.Call.{Call, asks, turns, refused, plain}
 use Rattle.runs.specs.RefusalTable.{refusal, openRefusal}
@@ -24,6 +24,7 @@ kind-number : (kind : Kind) (clinic : Clinic) → answerBy kind clinic .number �
 kind-number (posts choices) clinic = refl
 kind-number leaves clinic = refl
 kind-number (reads (Options i)) clinic = refl
+kind-number (reads (Alternatives i)) clinic = refl
 kind-number (reads (Example i a)) clinic = refl
 
 module _ (catalogue : Catalogue) where

@@ -24,7 +24,7 @@ turnedOutcome turned board =
     }
 
 -- What the contracts say: answer, desk and board at the end of a call are those of an outcome. Of open, enter, leave, choose
--- and relax; of options, which leaves desk and board as they are; of turns.
+-- and relax; of options and alternatives, which leave desk and board as they are; of turns.
 abbrev pub ChangesTo : Outcome → Changed → List ℕ → Type 0
 ChangesTo outcome changed board =
     record { answer = refused (changed .number); room = record { desk = changed .desk; board = board } } ≡ outcome

@@ -14,7 +14,7 @@ use Rattle.search.specs.Misfit.{Misfit}
 use Rattle.runs.specs.declared.Desk.{Desk}
 use Rattle.runs.specs.declared.Asking.{Asking}
 use Rattle.runs.specs.declared.Asking.the-variants.{Enter, Leave, Choose, Relax, Read}
-use Rattle.runs.specs.declared.Reading.the-variants.{Options, Example}
+use Rattle.runs.specs.declared.Reading.the-variants.{Options, Alternatives, Example}
 use Rattle.runs.specs.Room.{Room, seatAt}
 use Rattle.runs.specs.Call.{Call, asks}
 
@@ -35,14 +35,18 @@ pub data DeskMisfit (catalogue : Catalogue) (desk : Desk) : Type 0 where
   next-above-7 : 7 < desk .next → DeskMisfit catalogue desk
   a-seat : (c : ℕ) → c < 8 → Misfit catalogue (seatAt desk c) → DeskMisfit catalogue desk
 
--- the calls that name an option of a feature, and those that name a feature
+-- the calls that name an option of a feature, those that are for a feature with a choice, and those that name a feature
 pub data NamesOption : Asking → ℕ → ℕ → Type 0 where
   choose : {i a : ℕ} → NamesOption (Choose i a) i a
   example : {i a : ℕ} → NamesOption (Read (Example i a)) i a
 
+pub data NamesChoice : Asking → ℕ → Type 0 where
+  relax : {i : ℕ} → NamesChoice (Relax i) i
+  alternatives : {i : ℕ} → NamesChoice (Read (Alternatives i)) i
+
 pub data NamesFeature : Asking → ℕ → Type 0 where
   with-option : {asking : Asking} {i a : ℕ} → NamesOption asking i a → NamesFeature asking i
-  relax : {i : ℕ} → NamesFeature (Relax i) i
+  with-choice : {asking : Asking} {i : ℕ} → NamesChoice asking i → NamesFeature asking i
   options : {i : ℕ} → NamesFeature (Read (Options i)) i
 
 pub data Sentence (catalogue : Catalogue) (room : Room) : Call → ℕ → Type 0 where
@@ -72,5 +76,6 @@ pub data Sentence (catalogue : Catalogue) (room : Room) : Call → ℕ → Type 
   -- 37: option not left (choose, example)
   not-left : {c i a : ℕ} {asking : Asking} → NamesOption asking i a
       → (hasBit (getD (seatAt (room .desk) c .masks) i 0) a ≡ true → ⊥) → Sentence catalogue room (asks c asking) 37
-  -- 38: feature has no choice (relax)
-  no-choice : {c i : ℕ} → getD (seatAt (room .desk) c .choices) i 255 ≡ 255 → Sentence catalogue room (asks c (Relax i)) 38
+  -- 38: feature has no choice (relax, alternatives)
+  no-choice : {c i : ℕ} {asking : Asking} → NamesChoice asking i → getD (seatAt (room .desk) c .choices) i 255 ≡ 255
+      → Sentence catalogue room (asks c asking) 38

@@ -14,7 +14,7 @@ use Rattle.search.specs.Look.{isClosed, isAtWork, hasChoice, isLeft}
 use Rattle.runs.specs.declared.Desk.{Desk}
 use Rattle.runs.specs.declared.Asking.{Asking}
 use Rattle.runs.specs.declared.Asking.the-variants.{Enter, Leave, Choose, Relax, Read}
-use Rattle.runs.specs.declared.Reading.the-variants.{Options, Example}
+use Rattle.runs.specs.declared.Reading.the-variants.{Options, Alternatives, Example}
 use Rattle.runs.specs.Room.{Room, seatAt}
 use Rattle.runs.specs.DeskFits.{deskFits}
 use Rattle.runs.specs.Call.{Call, asks, turns}
@@ -41,6 +41,7 @@ askedRows sizes seat Leave = seatRows (31 ∷ []) sizes seat 0 0
 askedRows sizes seat (Choose i a) = seatRows (31 ∷ 33 ∷ 34 ∷ 35 ∷ 36 ∷ 37 ∷ []) sizes seat i a
 askedRows sizes seat (Relax i) = seatRows (31 ∷ 33 ∷ 34 ∷ 38 ∷ []) sizes seat i 0
 askedRows sizes seat (Read (Options i)) = seatRows (31 ∷ 33 ∷ 34 ∷ []) sizes seat i 0
+askedRows sizes seat (Read (Alternatives i)) = seatRows (31 ∷ 33 ∷ 34 ∷ 38 ∷ []) sizes seat i 0
 askedRows sizes seat (Read (Example i a)) = seatRows (31 ∷ 33 ∷ 34 ∷ 35 ∷ 37 ∷ []) sizes seat i a
 
 -- row 30 is for every asking; turns make none of the checks from 30 on

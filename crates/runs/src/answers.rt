@@ -7,6 +7,7 @@ pub struct Changed {
     pub desk: Desk,
 }
 
+// Of options and of alternatives.
 pub struct Left {
     pub number: u8,
     pub mask: u16, // bit a for option a

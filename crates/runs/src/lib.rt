@@ -24,5 +24,6 @@ pub enum Asking {
 // What is read of a ready seat.
 pub enum Reading {
     Options { feature: usize },
+    Alternatives { feature: usize },
     Example { feature: usize, option: usize }, // answered by two functions: one gives the bytes, the other the number
 }

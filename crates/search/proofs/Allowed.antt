@@ -10,10 +10,11 @@ use lib.Dec.{eqb}
 use borrow.Author.Tests.{eqb-true, eqb-false}
 use Rattle.builds.specs.Lists.{Every}
 use Rattle.builds.specs.Catalogue.{optionsOf}
+use Rattle.builds.specs.Alternative.{setAside}
+use Rattle.builds.proofs.Alternatives.{none-there, others-stay}
 use Rattle.builds.proofs.Every.{EveryTwo}
 use Rattle.builds.proofs.Options.{Rising, options-rising, options-below}
-use Rattle.search.specs.Candidates.{candidates, setAside}
-use Rattle.search.proofs.SetAside.{none-there, others-stay}
+use Rattle.search.specs.Candidates.{candidates}
 
 one-rising : (o : ℕ) → Rising (o ∷ [])
 one-rising o = EveryTwo.also Every.none EveryTwo.none

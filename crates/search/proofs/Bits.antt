@@ -78,6 +78,14 @@ has-own mask a =
 pub has-other : (mask a b : ℕ) → (b ≡ a → ⊥) → hasBit (withBit mask a) b ≡ hasBit mask b
 has-other mask a b other = rw (digit-with mask a b, digit-other a b other, or-zero-r)
 
+-- the mask of one option alone
+pub one-bit : (a b : ℕ) → hasBit (2 ^ a) b ≡ eqb b a
+one-bit a b = go (eqb b a) refl
+  where
+    go : (t : Bool) → eqb b a ≡ t → hasBit (2 ^ a) b ≡ t
+    go true e = rw (eqb-true b a e, digit-own a) refl
+    go false e = rw (digit-other a b (eqb-false b a e)) refl
+
 pub with-bit-below : (k mask a : ℕ) → mask < 2 ^ k → a < k → withBit mask a < 2 ^ k
 with-bit-below k mask a h l = rw (← or-bit mask a) (or-lt k mask (2 ^ a) h (pow-lt l))
 

@@ -11,7 +11,7 @@ use lib.Dec.{ltb, eqb}
 use borrow.Author.Tests.{ltb-true, ltb-false, eqb-true, eqb-false}
 use Rattle.builds.specs.Lists.{countFrom}
 use Rattle.search.specs.Candidates.{candidates, firstCandidate, firstAbove, nextCandidate}
-use Rattle.search.specs.FiveRules.{Candidate, Least}
+use Rattle.search.specs.StepRules.{Candidate, Least}
 use Rattle.search.proofs.CandidatesInOrder.{firstOf, candidates-first}
 
 -- a candidate at j greater than v

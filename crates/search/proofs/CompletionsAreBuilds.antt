@@ -17,7 +17,8 @@ use Rattle.builds.proofs.Faultless.{fault-zero}
 use Rattle.builds.proofs.Padded.{padded-option, padded-sets}
 use Rattle.builds.proofs.RulesByFeature.{passes-agree, rules-by-feature, tested-somewhere}
 use Rattle.search.specs.Clinic.{nothing16}
-use Rattle.search.specs.Candidates.{candidates, setAside}
+use Rattle.builds.specs.Alternative.{setAside}
+use Rattle.search.specs.Candidates.{candidates}
 use Rattle.search.proofs.SearchPremises.{SearchPremises}
 use Rattle.search.proofs.FirstCompletion.{Completes}
 use Rattle.search.proofs.CompletionsByFeature.{PlaceableAt, completes-placeable, placeable-completes}

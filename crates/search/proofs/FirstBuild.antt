@@ -1,11 +1,11 @@
 -- What the written search for one pair (i, a) finds: the first build in dictionary order with a at i under the choices
 -- with feature i's own set aside, padded; and nothing only where there is no such build. For it finds the first completion
--- of the empty trial. Rule 1 is a case above it: where it ends the pair no build with a at i keeps the choices, and
--- elsewhere those builds are the same ones, and so is the first.
+-- of the empty trial. Where the feature is not chosen otherwise, those builds are the ones under the choices themselves,
+-- and so is the first.
 use Prim.Native.Nat.{ℕ, _≤_}
 use mathlib.Core.Path.{_≡_, refl, sym, ap, _∙_}
 use mathlib.Core.Logic.{_↔_}
-use mathlib.Core.Bool.{Bool, true, false, cond}
+use mathlib.Core.Bool.{false}
 use mathlib.Core.List.{List, head?}
 use mathlib.Core.Option.{Option, none, some, Option·map, Option·some-injective, Option·none-ne-some, Option·some-ne-none}
 use native.Mathlib.Omega.{arith}
@@ -13,16 +13,17 @@ use lib.ListN.{length}
 use Rattle.builds.specs.Rule.{passes}
 use Rattle.builds.specs.Catalogue.{Catalogue, rulesOf}
 use Rattle.builds.specs.Build.{BuildWith, FirstWith, padded}
+use Rattle.builds.specs.Alternative.{setAside}
 use Rattle.builds.specs.ListedBuilds.{buildsWith}
 use Rattle.builds.proofs.Faultless.{fault-zero}
 use Rattle.builds.proofs.Padded.{padded-sets}
 use Rattle.builds.proofs.Dictionary.{FirstIs, one-answer}
 use Rattle.builds.proofs.ListedBuilds.{first-listed}
 use Rattle.search.specs.Clinic.{nothing16}
-use Rattle.search.specs.Candidates.{candidates, setAside, chosenOtherwise}
-use Rattle.search.specs.Count.{oneStep, nothingTried, searchFor, pairSearch}
+use Rattle.search.specs.Candidates.{candidates, chosenOtherwise}
+use Rattle.search.specs.Count.{pairSearch}
 use Rattle.search.proofs.SearchPremises.{SearchPremises}
-use Rattle.search.proofs.SetAside.{none-otherwise, same-builds, same-first}
+use Rattle.search.proofs.SetAside.{same-builds, same-first}
 use Rattle.search.proofs.Allowed.{candidates-rising}
 use Rattle.search.proofs.FirstCompletion.{Finds, search-finds}
 use Rattle.search.proofs.CompletionsAreBuilds.{Completion, completions-are-builds}
@@ -87,58 +88,43 @@ module _ (catalogue : Catalogue) (choices : List ℕ) (i a : ℕ) (premises : Se
         is-padded = ap {B = Option (List ℕ)} some (padded-sets build short);
       }
 
-  pub search-tells : TellsFirst catalogue (setAside choices i) i a (searchFor catalogue choices i a .found)
-  unfolding searchFor
+  pub search-tells : TellsFirst catalogue (setAside choices i) i a (pairSearch catalogue choices i a .found)
+  unfolding pairSearch
   search-tells =
       finds-answer
       (search-finds (passes (rulesOf catalogue)) (candidates (catalogue .sizes) choices i a)
       (candidates-rising (catalogue .sizes) choices i a) (length (catalogue .sizes)) 0 nothing16)
 
-  pub finds-nothing-aside : (searchFor catalogue choices i a .found ≡ none)
+  pub finds-nothing-aside : (pairSearch catalogue choices i a .found ≡ none)
       ↔ ((build : List ℕ) → BuildWith catalogue (setAside choices i) i a build → ⊥)
   finds-nothing-aside = (none-has search-tells, none-found search-tells)
 
-  pub finds-first-aside : (trial : List ℕ) → searchFor catalogue choices i a .found ≡ some trial
+  pub finds-first-aside : (trial : List ℕ) → pairSearch catalogue choices i a .found ≡ some trial
       → (build : List ℕ) × (trial ≡ padded build) × FirstWith catalogue (setAside choices i) i a build
   finds-first-aside = first-found search-tells
 
-  pub finds-listed-aside : searchFor catalogue choices i a .found
+  pub finds-listed-aside : pairSearch catalogue choices i a .found
       ≡ Option·map padded (head? (buildsWith (catalogue .sizes) (rulesOf catalogue) (setAside choices i) i a))
   finds-listed-aside = listed-found search-tells
 
-  -- ---- with rule 1 above it, under the choices themselves
+  -- ---- where the feature is not chosen otherwise, under the choices themselves
 
-  free-tells : chosenOtherwise choices i a ≡ false → {found : Option (List ℕ)}
-      → TellsFirst catalogue (setAside choices i) i a found → TellsFirst catalogue choices i a found
-  free-tells free tells = record { answer = tells .answer; is-right = go (tells .is-right); is-padded = tells .is-padded }
-    where
-      go : {answer : Option (List ℕ)} → FirstIs catalogue (setAside choices i) i a answer → FirstIs catalogue choices i a answer
-      go (FirstIs.nothing n) = FirstIs.nothing (λ build b. n build (same-builds catalogue choices i a free build .0 b))
-      go (FirstIs.first {build = build} f) = FirstIs.first (same-first catalogue choices i a free build .1 f)
+  module _ (free : chosenOtherwise choices i a ≡ false) where
+    free-tells : TellsFirst catalogue choices i a (pairSearch catalogue choices i a .found)
+    free-tells = record { answer = search-tells .answer; is-right = go (search-tells .is-right); is-padded = search-tells .is-padded }
+      where
+        go : {answer : Option (List ℕ)} → FirstIs catalogue (setAside choices i) i a answer → FirstIs catalogue choices i a answer
+        go (FirstIs.nothing n) = FirstIs.nothing (λ build b. n build (same-builds catalogue choices i a free build .0 b))
+        go (FirstIs.first {build = build} f) = FirstIs.first (same-first catalogue choices i a free build .1 f)
 
-  pub pair-tells : TellsFirst catalogue choices i a (pairSearch catalogue choices i a .found)
-  unfolding pairSearch
-  pair-tells = go (chosenOtherwise choices i a) refl
-    where
-      go : (otherwise : Bool) → chosenOtherwise choices i a ≡ otherwise
-          → TellsFirst catalogue choices i a (cond otherwise (oneStep nothingTried) (searchFor catalogue choices i a) .found)
-      go true e =
-          let no-build = none-otherwise catalogue choices i a (premises .feature) e in
-          record { answer = none; is-right = FirstIs.nothing no-build; is-padded = refl }
-      go false e = free-tells e search-tells
+    pub finds-nothing : (pairSearch catalogue choices i a .found ≡ none)
+        ↔ ((build : List ℕ) → BuildWith catalogue choices i a build → ⊥)
+    finds-nothing = (none-has free-tells, none-found free-tells)
 
-  pub finds-nothing : pairSearch catalogue choices i a .found ≡ none
-      → (build : List ℕ) → BuildWith catalogue choices i a build → ⊥
-  finds-nothing = none-has pair-tells
+    pub finds-first : (trial : List ℕ) → pairSearch catalogue choices i a .found ≡ some trial
+        → (build : List ℕ) × (trial ≡ padded build) × FirstWith catalogue choices i a build
+    finds-first = first-found free-tells
 
-  pub finds-nothing-exactly : (pairSearch catalogue choices i a .found ≡ none)
-      ↔ ((build : List ℕ) → BuildWith catalogue choices i a build → ⊥)
-  finds-nothing-exactly = (finds-nothing, none-found pair-tells)
-
-  pub finds-first : (trial : List ℕ) → pairSearch catalogue choices i a .found ≡ some trial
-      → (build : List ℕ) × (trial ≡ padded build) × FirstWith catalogue choices i a build
-  finds-first = first-found pair-tells
-
-  pub finds-listed : pairSearch catalogue choices i a .found
-      ≡ Option·map padded (head? (buildsWith (catalogue .sizes) (rulesOf catalogue) choices i a))
-  finds-listed = listed-found pair-tells
+    pub finds-listed : pairSearch catalogue choices i a .found
+        ≡ Option·map padded (head? (buildsWith (catalogue .sizes) (rulesOf catalogue) choices i a))
+    finds-listed = listed-found free-tells

@@ -15,7 +15,7 @@ use Rattle.search.specs.declared.Place.{Place}
 use Rattle.search.specs.declared.State.{State}
 use Rattle.search.specs.declared.State.the-variants.{Closed, Ready, AtWork}
 use Rattle.builds.specs.Lists.{everyBelow}
-use Rattle.search.specs.RecordFits.{choiceFits, maskFits, entryFits, emptyAt, placeFits, depthOf, stateFits, seatFits}
+use Rattle.search.specs.RecordFits.{choiceFits, maskFits, replaceable, alternativesFit, entryFits, emptyAt, placeFits, depthOf, stateFits, seatFits}
 
 module _ (test : ℕ → Bool) where
   pub every-below : (n : ℕ) → everyBelow n test ≡ true → (k : ℕ) → k < n → test k ≡ true
@@ -68,6 +68,7 @@ pub record StateFits (catalogue : Catalogue) (seat : Seat) (state : State) : Typ
 pub record SeatFits (catalogue : Catalogue) (seat : Seat) : Type 0 where
   pub choice-below : (f : ℕ) → f < 16 → (getD (seat .choices) f 255 ≡ 255 → ⊥) → getD (seat .choices) f 255 < sizeOf catalogue f
   pub mask-below : (f : ℕ) → f < 16 → getD (seat .masks) f 0 < 2 ^ sizeOf catalogue f
+  pub alternatives-below : (f : ℕ) → f < 16 → getD (seat .alternatives) f 0 < 2 ^ replaceable (catalogue .sizes) (seat .choices) f
   pub state-fits : StateFits catalogue seat (seat .state)
   pub placed-below : (f : ℕ) → f < 16 → f < depthOf (seat .state) → getD (seat .trial) f 255 < sizeOf catalogue f
   pub nothing-from : (f : ℕ) → f < 16 → depthOf (seat .state) ≤ f → getD (seat .trial) f 255 ≡ 255
@@ -117,12 +118,15 @@ module _ (catalogue : Catalogue) (seat : Seat) where
       let depth = depthOf (seat .state) in
       let t3 = and-eq-true-iff _ (everyBelow 16 (entryFits (catalogue .sizes) depth (seat .trial))) .0 h in
       let t2 = and-eq-true-iff _ (stateFits catalogue seat (seat .state)) .0 (t3 .0) in
-      let t1 = and-eq-true-iff (everyBelow 16 (choiceFits (catalogue .sizes) (seat .choices))) _ .0 (t2 .0) in
+      let alternatives = alternativesFit (catalogue .sizes) (seat .choices) (seat .alternatives) in
+      let t1 = and-eq-true-iff _ (everyBelow 16 alternatives) .0 (t2 .0) in
+      let t0 = and-eq-true-iff (everyBelow 16 (choiceFits (catalogue .sizes) (seat .choices))) _ .0 (t1 .0) in
       let entry = every-below (entryFits (catalogue .sizes) depth (seat .trial)) 16 (t3 .1) in
       record {
         choice-below = λ (f : ℕ) (l : f < 16) other.
-            ltb-true _ _ (rw (ne-eqb (getD (seat .choices) f 255) 255 other) at (every-below (choiceFits (catalogue .sizes) (seat .choices)) 16 (t1 .0) f l));
-        mask-below = λ (f : ℕ) (l : f < 16). ltb-true _ _ (every-below (maskFits (catalogue .sizes) (seat .masks)) 16 (t1 .1) f l);
+            ltb-true _ _ (rw (ne-eqb (getD (seat .choices) f 255) 255 other) at (every-below (choiceFits (catalogue .sizes) (seat .choices)) 16 (t0 .0) f l));
+        mask-below = λ (f : ℕ) (l : f < 16). ltb-true _ _ (every-below (maskFits (catalogue .sizes) (seat .masks)) 16 (t0 .1) f l);
+        alternatives-below = λ (f : ℕ) (l : f < 16). ltb-true _ _ (every-below alternatives 16 (t1 .1) f l);
         state-fits = state-within (seat .state) (t2 .1);
         placed-below = λ (f : ℕ) (l : f < 16) (placed : f < depth). ltb-true _ _ (rw (lt-ltb f depth placed) at (entry f l));
         nothing-from = λ (f : ℕ) (l : f < 16) (deep : depth ≤ f). eqb-true _ _ (rw (le-ltb f depth deep) at (entry f l));
@@ -135,8 +139,11 @@ module _ (catalogue : Catalogue) (seat : Seat) where
       (λ (f : ℕ) (l : f < 16). choice-within (getD (seat .choices) f 255) (sizeOf catalogue f) (fits .choice-below f l)) in
       let masks = below-every (maskFits (catalogue .sizes) (seat .masks)) 16
       (λ (f : ℕ) (l : f < 16). lt-ltb (getD (seat .masks) f 0) (2 ^ sizeOf catalogue f) (fits .mask-below f l)) in
+      let alternatives = below-every (alternativesFit (catalogue .sizes) (seat .choices) (seat .alternatives)) 16
+      (λ (f : ℕ) (l : f < 16).
+      lt-ltb (getD (seat .alternatives) f 0) (2 ^ replaceable (catalogue .sizes) (seat .choices) f) (fits .alternatives-below f l)) in
       let state = within-state (seat .state) (fits .state-fits) in
       let entries = below-every (entryFits (catalogue .sizes) (depthOf (seat .state)) (seat .trial)) 16
       (λ (f : ℕ) (l : f < 16). entry-within f (depthOf (seat .state)) (getD (seat .trial) f 255) (sizeOf catalogue f) (fits .placed-below f l) (fits .nothing-from f l)) in
       and-eq-true-iff _ _ .1
-      (and-eq-true-iff _ _ .1 (and-eq-true-iff _ _ .1 (choices, masks), state), entries)
+      (and-eq-true-iff _ _ .1 (and-eq-true-iff _ _ .1 (and-eq-true-iff _ _ .1 (choices, masks), alternatives), state), entries)

@@ -1,38 +1,50 @@
--- What a job leaves when it has ended: the bit of a pair is set just where the feature has the option and the pair's search
--- finds a build, which then stands as its example in the share; all else is empty, as it was posted. So a mask has no bit
--- but for an option of its feature.
+-- What a job leaves when it has ended: the bit of a pair is set just where the feature has the option, is not chosen
+-- otherwise, and the pair's search finds a build, which then stands as its example in the share; all else is empty, as it was
+-- posted. So a mask has no bit but for an option of its feature. Among the alternatives the bit of a pair chosen otherwise is
+-- set where its search finds a build, and any other as it was posted, for the option in force alone.
 use Prim.Native.Nat.{ℕ, _^_, _≤_, _<_}
-use mathlib.Core.Path.{_≡_, refl, sym, ap, _∙_}
-use mathlib.Core.Logic.{_↔_}
-use mathlib.Core.Bool.{Bool, true, false, cond, false≢true}
+use mathlib.Core.Path.{_≡_, refl, sym, _∙_}
+use mathlib.Core.Logic.{_↔_, _⊎_, inl, inr, ⊎-elim}
+use mathlib.Core.Bool.{Bool, true, false, cond, not, _&&_, false≢true}
 use mathlib.Core.List.{List}
 use mathlib.Core.Option.{Option, none, some}
 use native.Mathlib.Omega.{arith}
-use lib.ListN.{length, getD, length-replicate, List·getD-eq-default}
-use lib.Dec.{ltb}
+use lib.ListN.{length, getD, length-map, length-replicate, List·getD-eq-default}
+use lib.Dec.{ltb, eqb}
 use borrow.Author.Tests.{ltb-true, ltb-false, lt-ltb, le-ltb}
 use Rattle.builds.specs.Catalogue.{Catalogue}
 use Rattle.builds.specs.Fault.{faultOf}
 use Rattle.builds.specs.Lists.{Every}
 use Rattle.builds.proofs.Faultless.{fault-zero, sizesFault-at}
 use Rattle.search.specs.Bits.{hasBit}
-use Rattle.search.specs.Clinic.{Clinic, nothing16, noneLeft, emptyShare, exampleIn}
+use Rattle.search.specs.Clinic.{Clinic, nothing16, noneLeft, emptyShare, inForce, exampleIn}
+use Rattle.search.specs.Candidates.{chosenOtherwise}
 use Rattle.search.specs.Step.{posted}
 use Rattle.search.specs.Count.{pairSearch, pairsFrom}
 use Rattle.search.specs.RecordFits.{maskFits}
-use Rattle.search.proofs.Bits.{no-bit-above}
+use Rattle.search.proofs.Bits.{no-bit-above, one-bit}
 use Rattle.search.proofs.NoBits.{no-bit-from}
+use Rattle.search.proofs.ClinicFits.{in-force-at}
 use Rattle.search.proofs.ExamplePlaces.{empty-example}
 use Rattle.search.proofs.PairSteps.{same-again}
 use Rattle.search.proofs.PairsOfAJob.{every-among, job-pairs}
 use Rattle.search.proofs.JobSteps.{worked, jobEnded}
-use Rattle.search.proofs.PairView.{WholeClinic, HasPlace, View, bitOf, bit-view, exampleOf, example-view}
+use Rattle.search.proofs.PairView.{WholeClinic, HasPlace, View, bitOf, bit-view}
+use Rattle.search.proofs.PairView.{exampleOf, example-view, alternativeOf, alternative-view}
 use Rattle.search.proofs.WorkedPairs.{shownOr, worked-whole, worked-nothing, worked-seen}
 
-module _ (sizes choices : List ℕ) where
+-- a is the choice in force at feature i
+abbrev pub isInForce : List ℕ → ℕ → ℕ → Bool
+isInForce choices i a = not (eqb (getD choices i 255) 255) && eqb a (getD choices i 255)
+
+module _ (sizes choices : List ℕ) (sixteen : length choices ≡ 16) where
   posted-whole : WholeClinic (posted sizes choices)
   unfolding posted
-  posted-whole = record { all-masks = refl; all-bytes = length-replicate {A = ℕ} 4096 255 }
+  posted-whole = record {
+    all-masks = refl;
+    all-alternatives = length-map choices inForce ∙ sixteen;
+    all-bytes = length-replicate {A = ℕ} 4096 255;
+  }
 
   posted-bit : (i a : ℕ) → bitOf i a (posted sizes choices) ≡ false
   unfolding posted
@@ -42,6 +54,14 @@ module _ (sizes choices : List ℕ) where
   unfolding posted
   posted-example = empty-example
 
+  posted-alternative : (i a : ℕ) → alternativeOf i a (posted sizes choices) ≡ isInForce choices i a
+  unfolding posted
+  posted-alternative i a = rw (in-force-at choices i) (go (getD choices i 255) (eqb (getD choices i 255) 255))
+    where
+      go : (choice : ℕ) (unchosen : Bool) → hasBit (cond unchosen 0 (2 ^ choice)) a ≡ (not unchosen && eqb a choice)
+      go choice true = no-bit-above 0 0 a (omega arith) (omega arith)
+      go choice false = one-bit choice a
+
 -- an option that a feature has is one of a feature of the catalogue
 pub option-of : (sizes : List ℕ) (i a : ℕ) → a < getD sizes i 0 → i < length sizes
 option-of sizes i a l = go (ltb i (length sizes)) refl
@@ -50,7 +70,7 @@ option-of sizes i a l = go (ltb i (length sizes)) refl
     go true h = ltb-true i (length sizes) h
     go false h = absurd (omega (arith, List·getD-eq-default sizes 0 (ltb-false i (length sizes) h)))
 
-module _ (catalogue : Catalogue) (fault : faultOf catalogue ≡ 0) (choices : List ℕ) where
+module _ (catalogue : Catalogue) (fault : faultOf catalogue ≡ 0) (choices : List ℕ) (sixteen : length choices ≡ 16) where
   abbrev sizes : List ℕ
   sizes = catalogue .sizes
 
@@ -59,6 +79,12 @@ module _ (catalogue : Catalogue) (fault : faultOf catalogue ≡ 0) (choices : Li
 
   abbrev masks : List ℕ
   masks = jobEnded catalogue choices .seat .masks
+
+  abbrev alternatives : List ℕ
+  alternatives = jobEnded catalogue choices .seat .alternatives
+
+  abbrev otherwise : ℕ → ℕ → Bool
+  otherwise i a = chosenOtherwise choices i a
 
   abbrev share : List ℕ
   share = jobEnded catalogue choices .share
@@ -79,7 +105,7 @@ module _ (catalogue : Catalogue) (fault : faultOf catalogue ≡ 0) (choices : Li
   pairs-have-places = every-pair pair-place
 
   job-whole : WholeClinic (worked catalogue choices (pairsFrom 0 sizes) (posted sizes choices))
-  job-whole = worked-whole catalogue choices pairs-have-places (posted sizes choices) (posted-whole sizes choices)
+  job-whole = worked-whole catalogue choices pairs-have-places (posted sizes choices) (posted-whole sizes choices sixteen)
 
   pub job-masks-length : length masks ≡ 16
   job-masks-length = job-whole .all-masks
@@ -88,36 +114,66 @@ module _ (catalogue : Catalogue) (fault : faultOf catalogue ≡ 0) (choices : Li
   job-share-length = job-whole .all-bytes
 
   -- what is seen of a pair at the end of a job, by what was seen as it was posted
-  abbrev seenAtEnd : {A : Type 0} → (List ℕ → A) → A → ℕ → ℕ → A
-  seenAtEnd shown before i a = cond (ltb a (getD sizes i 0)) (shownOr shown (found i a) before) before
+  abbrev seenAtEnd : {A : Type 0} → Bool → (List ℕ → A) → A → ℕ → ℕ → A
+  seenAtEnd shows shown before i a = cond (ltb a (getD sizes i 0)) (shownOr shows shown (found i a) before) before
 
-  job-seen : {A : Type 0} {see : Clinic → A} {shown : List ℕ → A} {i a : ℕ} → View see shown i a
+  job-seen : {A : Type 0} {see : Clinic → A} {shows : Bool} {shown : List ℕ → A} {i a : ℕ} → View choices see shows shown i a
       → see (worked catalogue choices (pairsFrom 0 sizes) (posted sizes choices))
-      ≡ seenAtEnd shown (see (posted sizes choices)) i a
+      ≡ seenAtEnd shows shown (see (posted sizes choices)) i a
   job-seen {i} {a} view =
-      worked-seen catalogue choices view pairs-have-places (posted sizes choices) (posted-whole sizes choices)
+      worked-seen catalogue choices view pairs-have-places (posted sizes choices) (posted-whole sizes choices sixteen)
       ∙ rw (job-pairs i a sizes) refl
 
-  pub job-bit : (i a : ℕ) → hasBit (getD masks i 0) a ≡ seenAtEnd (λ (t : List ℕ). true) false i a
-  job-bit i a = rw (posted-bit sizes choices i a) at (job-seen (bit-view i a))
+  pub job-bit : (i a : ℕ) → hasBit (getD masks i 0) a ≡ seenAtEnd (not (otherwise i a)) (λ (t : List ℕ). true) false i a
+  job-bit i a = rw (posted-bit sizes choices sixteen i a) at (job-seen (bit-view i a choices))
 
-  pub job-example : (i a : ℕ) → i < 16 → a < 16 → exampleIn share i a ≡ seenAtEnd (λ (t : List ℕ). t) nothing16 i a
-  job-example i a k l = rw (posted-example sizes choices i a k l) at (job-seen (example-view i a l))
+  pub job-example : (i a : ℕ) → i < 16 → a < 16
+      → exampleIn share i a ≡ seenAtEnd (not (otherwise i a)) (λ (t : List ℕ). t) nothing16 i a
+  job-example i a k l = rw (posted-example sizes choices sixteen i a k l) at (job-seen (example-view i a choices l))
 
-  -- a bit is set just where the feature has the option and the pair's search finds a build
-  pub job-masks : (i a : ℕ)
-      → (hasBit (getD masks i 0) a ≡ true) ↔ ((a < getD sizes i 0) × ((t : List ℕ) × (found i a ≡ some t)))
-  job-masks i a = (λ set. there (ltb a (getD sizes i 0)) (found i a) refl refl (sym (job-bit i a) ∙ set), back)
+  pub job-alternative : (i a : ℕ)
+      → hasBit (getD alternatives i 0) a ≡ seenAtEnd (otherwise i a) (λ (t : List ℕ). true) (isInForce choices i a) i a
+  job-alternative i a = rw (posted-alternative sizes choices sixteen i a) at (job-seen (alternative-view i a choices))
+
+  -- a bit is set just where the feature has the option, is not chosen otherwise, and the pair's search finds a build
+  pub job-masks : (i a : ℕ) → (hasBit (getD masks i 0) a ≡ true)
+      ↔ ((a < getD sizes i 0) × (otherwise i a ≡ false) × ((t : List ℕ) × (found i a ≡ some t)))
+  job-masks i a = (λ set. there (ltb a (getD sizes i 0)) (found i a) (otherwise i a) refl refl refl (sym (job-bit i a) ∙ set), back)
     where
-      there : (b : Bool) (sought : Option (List ℕ)) → ltb a (getD sizes i 0) ≡ b → found i a ≡ sought
-          → cond b (shownOr (λ (t : List ℕ). true) sought false) false ≡ true
-          → (a < getD sizes i 0) × ((t : List ℕ) × (found i a ≡ some t))
-      there true (some t) h e set = (ltb-true a (getD sizes i 0) h, (t, e))
-      there true none h e set = absurd (false≢true set)
-      there false sought h e set = absurd (false≢true set)
+      there : (b : Bool) (sought : Option (List ℕ)) (o : Bool) → ltb a (getD sizes i 0) ≡ b → found i a ≡ sought → otherwise i a ≡ o
+          → cond b (shownOr (not o) (λ (t : List ℕ). true) sought false) false ≡ true
+          → (a < getD sizes i 0) × (otherwise i a ≡ false) × ((t : List ℕ) × (found i a ≡ some t))
+      there true (some t) false h e k set = (ltb-true a (getD sizes i 0) h, k, (t, e))
+      there true (some t) true h e k set = absurd (false≢true set)
+      there true none o h e k set = absurd (false≢true set)
+      there false sought o h e k set = absurd (false≢true set)
 
-      back : (a < getD sizes i 0) × ((t : List ℕ) × (found i a ≡ some t)) → hasBit (getD masks i 0) a ≡ true
-      back h = job-bit i a ∙ rw (lt-ltb a (getD sizes i 0) (h .0), h .1 .1) refl
+      back : (a < getD sizes i 0) × (otherwise i a ≡ false) × ((t : List ℕ) × (found i a ≡ some t)) → hasBit (getD masks i 0) a ≡ true
+      back h = job-bit i a ∙ rw (lt-ltb a (getD sizes i 0) (h .0), h .1, h .2 .1) refl
+
+  -- an alternative's bit is set just where it is in force, or chosen otherwise and the pair's search finds a build
+  pub job-alternatives : (i a : ℕ) → (hasBit (getD alternatives i 0) a ≡ true)
+      ↔ ((isInForce choices i a ≡ true) ⊎ ((a < getD sizes i 0) × (otherwise i a ≡ true) × ((t : List ℕ) × (found i a ≡ some t))))
+  job-alternatives i a = (
+    λ set. there (ltb a (getD sizes i 0)) (found i a) (otherwise i a) refl refl refl (sym (job-alternative i a) ∙ set),
+    λ h. job-alternative i a ∙ ⊎-elim (λ k. in-force k (ltb a (getD sizes i 0)) (found i a) (otherwise i a))
+        (λ k. rw (lt-ltb a (getD sizes i 0) (k .0), k .1, k .2 .1) refl) h,
+  )
+    where
+      there : (b : Bool) (sought : Option (List ℕ)) (o : Bool) → ltb a (getD sizes i 0) ≡ b → found i a ≡ sought → otherwise i a ≡ o
+          → cond b (shownOr o (λ (t : List ℕ). true) sought (isInForce choices i a)) (isInForce choices i a) ≡ true
+          → (isInForce choices i a ≡ true) ⊎ ((a < getD sizes i 0) × (otherwise i a ≡ true) × ((t : List ℕ) × (found i a ≡ some t)))
+      there true (some t) true h e k set = inr (ltb-true a (getD sizes i 0) h, k, (t, e))
+      there true (some t) false h e k set = inl set
+      there true none o h e k set = inl set
+      there false sought o h e k set = inl set
+
+      in-force : isInForce choices i a ≡ true → (b : Bool) (sought : Option (List ℕ)) (o : Bool)
+          → cond b (shownOr o (λ (t : List ℕ). true) sought (isInForce choices i a)) (isInForce choices i a) ≡ true
+      in-force k true (some t) true = refl
+      in-force k true (some t) false = k
+      in-force k true none o = k
+      in-force k false sought o = k
 
   no-option-no-bit : (i a : ℕ) → getD sizes i 0 ≤ a → hasBit (getD masks i 0) a ≡ false
   no-option-no-bit i a l = job-bit i a ∙ rw (le-ltb a (getD sizes i 0) l) refl
@@ -133,24 +189,29 @@ module _ (catalogue : Catalogue) (fault : faultOf catalogue ≡ 0) (choices : Li
   job-mask-missing i l = omega (arith, rw (List·getD-eq-default sizes 0 l) at (job-mask-below i))
 
   -- a build that a pair's search finds stands as its example
-  pub job-example-found : (i a : ℕ) (t : List ℕ) → a < getD sizes i 0 → found i a ≡ some t → exampleIn share i a ≡ t
-  job-example-found i a t l e =
+  pub job-example-found : (i a : ℕ) (t : List ℕ) → a < getD sizes i 0 → otherwise i a ≡ false → found i a ≡ some t
+      → exampleIn share i a ≡ t
+  job-example-found i a t l free e =
       let fits = pair-place i a l in
-      job-example i a (fits .feature-fits) (fits .option-fits) ∙ rw (lt-ltb a (getD sizes i 0) l, e) refl
+      job-example i a (fits .feature-fits) (fits .option-fits) ∙ rw (lt-ltb a (getD sizes i 0) l, free, e) refl
 
-  -- any other place of the share is empty: the feature lacks the option, or the search finds nothing
-  pub job-example-none : (i a : ℕ) → i < 16 → a < 16 → (a < getD sizes i 0 → found i a ≡ none)
+  -- any other place of the share is empty: the feature lacks the option, is chosen otherwise, or the search finds nothing
+  pub job-example-none : (i a : ℕ) → i < 16 → a < 16 → (a < getD sizes i 0 → otherwise i a ≡ false → found i a ≡ none)
       → exampleIn share i a ≡ nothing16
-  job-example-none i a k l nothing = job-example i a k l ∙ go (ltb a (getD sizes i 0)) refl
+  job-example-none i a k l nothing = job-example i a k l ∙ go (ltb a (getD sizes i 0)) (otherwise i a) refl refl
     where
-      go : (b : Bool) → ltb a (getD sizes i 0) ≡ b
-          → cond b (shownOr (λ (t : List ℕ). t) (found i a) nothing16) nothing16 ≡ nothing16
-      go true h = rw (nothing (ltb-true a (getD sizes i 0) h)) refl
-      go false h = refl
+      unseen : (sought : Option (List ℕ)) → shownOr false (λ (t : List ℕ). t) sought nothing16 ≡ nothing16
+      unseen none = refl
+      unseen (some t) = refl
 
-  -- a job that finds nothing leaves nothing
-  pub job-nothing : ((i a : ℕ) → a < getD sizes i 0 → found i a ≡ none) → (masks ≡ noneLeft) × (share ≡ emptyShare)
+      go : (b o : Bool) → ltb a (getD sizes i 0) ≡ b → otherwise i a ≡ o
+          → cond b (shownOr (not o) (λ (t : List ℕ). t) (found i a) nothing16) nothing16 ≡ nothing16
+      go true true h e = unseen (found i a)
+      go true false h e = rw (nothing (ltb-true a (getD sizes i 0) h) e) refl
+      go false o h e = refl
+
+  -- a job that finds nothing but alternatives leaves nothing in masks and share
+  pub job-nothing : ((i a : ℕ) → a < getD sizes i 0 → otherwise i a ≡ false → found i a ≡ none)
+      → (masks ≡ noneLeft) × (share ≡ emptyShare)
   unfolding posted
-  job-nothing nothing =
-      let same = worked-nothing catalogue choices (every-pair nothing) (posted sizes choices) in
-      (ap (λ (clinic : Clinic). clinic .seat .masks) same, ap (λ (clinic : Clinic). clinic .share) same)
+  job-nothing nothing = worked-nothing catalogue choices (every-pair nothing) (posted sizes choices)

@@ -12,10 +12,11 @@ use Rattle.builds.specs.Fault.{faultOf}
 use Rattle.builds.proofs.Faultless.{fault-zero}
 use Rattle.search.specs.declared.State.{State}
 use Rattle.search.specs.declared.State.the-variants.{Ready}
-use Rattle.search.specs.Clinic.{Clinic, nothing16, moved, withExample}
+use Rattle.search.specs.Clinic.{Clinic, nothing16, moved}
 use Rattle.search.specs.Step.{started, pairEnded, steps, posted}
 use Rattle.builds.specs.Lists.{sum}
 use Rattle.search.specs.Count.{pairSearch, pairsFrom, pairCounts, jobSteps}
+use Rattle.search.proofs.WithBuild.{build-choices, build-moved}
 use Rattle.search.proofs.TakesSteps.{TakesSteps, Working, working, takes-steps, takes-before, takes-to, takes-join, takes-weaken}
 use Rattle.search.proofs.PairSteps.{withFound, stays, some-option, pair-takes}
 use Rattle.search.proofs.PairsInOrder.{InOrder, stateAt, feature-first, pairs-in-order}
@@ -24,19 +25,18 @@ use Rattle.search.proofs.PairsInOrder.{InOrder, stateAt, feature-first,
 unfoldable pub worked : Catalogue → List ℕ → List (ℕ × ℕ) → Clinic → Clinic
 worked catalogue choices [] clinic = clinic
 worked catalogue choices (p ∷ ps) clinic =
-    worked catalogue choices ps (withFound (p .0) (p .1) (pairSearch catalogue choices (p .0) (p .1) .found) clinic)
+    worked catalogue choices ps (withFound choices (p .0) (p .1) (pairSearch catalogue choices (p .0) (p .1) .found) clinic)
 
-found-moved : (i a : ℕ) (found : Option (List ℕ)) (state : State) (trial : List ℕ) (clinic : Clinic)
-    → withFound i a found (moved state trial clinic) ≡ moved state trial (withFound i a found clinic)
-unfolding withExample
-found-moved i a none state trial clinic = refl
-found-moved i a (some example) state trial clinic = refl
+module _ (choices : List ℕ) (i a : ℕ) where
+  found-moved : (found : Option (List ℕ)) (state : State) (trial : List ℕ) (clinic : Clinic)
+      → withFound choices i a found (moved state trial clinic) ≡ moved state trial (withFound choices i a found clinic)
+  found-moved none state trial clinic = refl
+  found-moved (some example) state trial clinic = build-moved choices i a example clinic state trial
 
-found-choices : (i a : ℕ) (found : Option (List ℕ)) (clinic : Clinic)
-    → withFound i a found clinic .seat .choices ≡ clinic .seat .choices
-unfolding withExample
-found-choices i a none clinic = refl
-found-choices i a (some example) clinic = refl
+  found-choices : (found : Option (List ℕ)) (clinic : Clinic)
+      → withFound choices i a found clinic .seat .choices ≡ clinic .seat .choices
+  found-choices none clinic = refl
+  found-choices (some example) clinic = build-choices choices i a example clinic
 
 module _ (catalogue : Catalogue) (choices : List ℕ) where
   worked-moved : (ps : List (ℕ × ℕ)) (state : State) (trial : List ℕ) (clinic : Clinic)
@@ -45,7 +45,7 @@ module _ (catalogue : Catalogue) (choices : List ℕ) where
   worked-moved [] state trial clinic = refl
   worked-moved (p ∷ ps) state trial clinic =
       ap (worked catalogue choices ps)
-      (found-moved (p .0) (p .1) (pairSearch catalogue choices (p .0) (p .1) .found) state trial clinic)
+      (found-moved choices (p .0) (p .1) (pairSearch catalogue choices (p .0) (p .1) .found) state trial clinic)
       ∙ worked-moved ps state trial _
 
   pub worked-choices : (ps : List (ℕ × ℕ)) (clinic : Clinic)
@@ -53,7 +53,7 @@ module _ (catalogue : Catalogue) (choices : List ℕ) where
   unfolding worked
   worked-choices [] clinic = refl
   worked-choices (p ∷ ps) clinic =
-      worked-choices ps _ ∙ found-choices (p .0) (p .1) (pairSearch catalogue choices (p .0) (p .1) .found) clinic
+      worked-choices ps _ ∙ found-choices choices (p .0) (p .1) (pairSearch catalogue choices (p .0) (p .1) .found) clinic
 
   abbrev counted : ℕ × ℕ → ℕ
   counted p = pairSearch catalogue choices (p .0) (p .1) .count
@@ -67,13 +67,13 @@ module _ (catalogue : Catalogue) (choices : List ℕ) where
     pairs-take InOrder.done clinic state-is choices-are trial-is = takes-to (stays clinic state-is trial-is) TakesSteps.none
     pairs-take (InOrder.also {i = i} {a = a} {ps = ps} next later) clinic state-is choices-are trial-is =
         let found : Option (List ℕ) = pairSearch catalogue choices i a .found in
-        let kept : withFound i a found clinic .seat .choices ≡ choices = found-choices i a found clinic ∙ choices-are in
-        let ended : Clinic = pairEnded (catalogue .sizes) i a (withFound i a found clinic) in
+        let kept : withFound choices i a found clinic .seat .choices ≡ choices = found-choices choices i a found clinic ∙ choices-are in
+        let ended : Clinic = pairEnded (catalogue .sizes) i a (withFound choices i a found clinic) in
         takes-join
         (takes-weaken (λ (s : State) w. working w)
         (pair-takes catalogue fault choices i a clinic
         (record { state-is = state-is; choices-are = choices-are; trial-is = trial-is })))
-        (takes-to (ap (moved Ready nothing16) (worked-moved ps _ nothing16 (withFound i a found clinic)))
+        (takes-to (ap (moved Ready nothing16) (worked-moved ps _ nothing16 (withFound choices i a found clinic)))
         (pairs-take later ended (rw kept next) kept refl))
 
 -- the clinic at the end of a job

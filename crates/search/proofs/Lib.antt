@@ -1,5 +1,5 @@
 -- The written search, from its top theorems down.
---   FiveRules, OneOutcome: a step does what the paper's five rules say, wherever number 20 lets the record through, and
+--   StepRules, OneOutcome: a step does what the paper's rules say, wherever number 20 lets the record through, and
 --     they allow nothing else
 --   ReadyJob: what a clinic sees when its job has ended
 --   FirstBuild: one pair's search finds the first build in dictionary order that has the option, or there is none
@@ -15,6 +15,8 @@ pub mod EveryBelow
 pub mod Misfit
 pub mod Filled
 pub mod KeptBefore
+pub mod SetAside
+pub mod WithBuild
 pub mod PlaceBounds
 pub mod ExamplePlaces
 pub mod TakesSteps
@@ -32,7 +34,7 @@ pub mod CandidateWords
 pub mod PassedInWords
 pub mod WentBack
 pub mod PairEnded
-pub mod FiveRules
+pub mod StepRules
 pub mod NearestDepth
 pub mod OneOutcome
 pub mod StepWrites
@@ -47,7 +49,6 @@ pub mod PairView
 pub mod WorkedPairs
 pub mod JobResult
 pub mod SearchPremises
-pub mod SetAside
 pub mod Allowed
 pub mod FirstCompletion
 pub mod CompletionsByFeature

@@ -7,7 +7,7 @@ use mathlib.Core.Bool.{Bool, true, false, cond, _&&_, _||_, true≢false}
 use native.Mathlib.Omega.{arith}
 use lib.ListN.{length, getD, List·getD-eq-default}
 use lib.Dec.{ltb, eqb}
-use borrow.Author.Tests.{ltb-true, ltb-false, eqb-false}
+use borrow.Author.Tests.{ltb-true, ltb-false, eqb-true, eqb-false, eq-eqb}
 use Rattle.builds.specs.Catalogue.{Catalogue, sizeOf}
 use Rattle.builds.specs.Lists.{everyBelow}
 use Rattle.search.specs.declared.Seat.{Seat}
@@ -15,7 +15,7 @@ use Rattle.search.specs.declared.Place.{Place}
 use Rattle.search.specs.declared.State.{State}
 use Rattle.search.specs.declared.State.the-variants.{Closed, Ready, AtWork}
 use Rattle.search.specs.Bits.{hasBit}
-use Rattle.search.specs.RecordFits.{choiceFits, maskFits, entryFits, emptyAt, placeFits, depthOf, stateFits, seatFits}
+use Rattle.search.specs.RecordFits.{choiceFits, maskFits, replaceable, alternativesFit, entryFits, emptyAt, placeFits, depthOf, stateFits, seatFits}
 use Rattle.search.specs.Misfit.{Misfit}
 use Rattle.search.proofs.Bits.{no-bit-above}
 use Rattle.search.proofs.NoBits.{some-bit-from}
@@ -59,11 +59,28 @@ module _ (catalogue : Catalogue) (seat : Seat) where
   no-bit : (k mask a : ℕ) → mask < 2 ^ k → k ≤ a → hasBit mask a ≡ true → ⊥
   no-bit k mask a h l bit = true≢false (sym bit ∙ no-bit-above k mask a h l)
 
+  no-more : (f : ℕ) → replaceable (catalogue .sizes) (seat .choices) f ≤ sizeOf catalogue f
+  no-more f = go (eqb (getD (seat .choices) f 255) 255)
+    where
+      go : (unchosen : Bool) → cond unchosen 0 (sizeOf catalogue f) ≤ sizeOf catalogue f
+      go true = omega arith
+      go false = omega arith
+
+  no-alternative : SeatFits catalogue seat → (f a : ℕ) → f < 16 → replaceable (catalogue .sizes) (seat .choices) f ≤ a
+      → hasBit (getD (seat .alternatives) f 0) a ≡ true → ⊥
+  no-alternative fits f a l above =
+      no-bit (replaceable (catalogue .sizes) (seat .choices) f) (getD (seat .alternatives) f 0) a (fits .alternatives-below f l) above
+
   no-misfit : SeatFits catalogue seat → Misfit catalogue seat → ⊥
   no-misfit fits (Misfit.choice f l other above) =
       omega (arith, fits .choice-below f l other, not-below f (getD (seat .choices) f 255) above)
   no-misfit fits (Misfit.mask-bit f a l bit above) =
       no-bit (sizeOf catalogue f) (getD (seat .masks) f 0) a (fits .mask-below f l) (not-below f a above) bit
+  no-misfit fits (Misfit.alternative f a l bit above) =
+      no-alternative fits f a l (omega (arith, no-more f)) bit
+  no-misfit fits (Misfit.alternative-unchosen f a l bit none) =
+      let nothing : replaceable (catalogue .sizes) (seat .choices) f ≡ 0 = rw (eq-eqb (getD (seat .choices) f 255) 255 none) refl in
+      no-alternative fits f a l (omega (arith, nothing)) bit
   no-misfit fits (Misfit.feature-of-place {p} e above) = omega (arith, fits .state-fits .place-within p e .feature-below)
   no-misfit fits (Misfit.depth-of-place {p} e above) = omega (arith, fits .state-fits .place-within p e .depth-below)
   no-misfit fits (Misfit.option-of-place {p} e above) = omega (arith, fits .state-fits .place-within p e .option-below)
@@ -93,6 +110,19 @@ module _ (catalogue : Catalogue) (seat : Seat) where
       let f : ℕ = found .0 in
       let bit = some-bit-from (sizeOf catalogue f) (getD (seat .masks) f 0) (ltb-false _ _ (found .2)) in
       Misfit.mask-bit f (bit .0) (found .1) (bit .2) (λ there. bit .1)
+
+  alternatives-fail : everyBelow 16 (alternativesFit (catalogue .sizes) (seat .choices) (seat .alternatives)) ≡ false
+      → Misfit catalogue seat
+  alternatives-fail h =
+      let found = some-fails (alternativesFit (catalogue .sizes) (seat .choices) (seat .alternatives)) 16 h in
+      let most = replaceable (catalogue .sizes) (seat .choices) (found .0) in
+      let bit = some-bit-from most (getD (seat .alternatives) (found .0) 0) (ltb-false _ _ (found .2)) in
+      go (found .0) (found .1) (eqb (getD (seat .choices) (found .0) 255) 255) refl (bit .0) (bit .1) (bit .2)
+    where
+      go : (f : ℕ) → f < 16 → (unchosen : Bool) → eqb (getD (seat .choices) f 255) 255 ≡ unchosen → (a : ℕ)
+          → cond unchosen 0 (sizeOf catalogue f) ≤ a → hasBit (getD (seat .alternatives) f 0) a ≡ true → Misfit catalogue seat
+      go f l true e a above bit = Misfit.alternative-unchosen f a l bit (eqb-true _ 255 e)
+      go f l false e a above bit = Misfit.alternative f a l bit above
 
   place-fails : (p : Place) → seat .state ≡ AtWork p → placeFits catalogue p ≡ false → Misfit catalogue seat
   place-fails p e h =
@@ -142,7 +172,7 @@ module _ (catalogue : Catalogue) (seat : Seat) where
   misfit-here h =
       ⊎-elim
       (λ h3. ⊎-elim
-      (λ h2. ⊎-elim choice-fails mask-fails (either-fails _ _ h2))
+      (λ h2. ⊎-elim (λ h1. ⊎-elim choice-fails mask-fails (either-fails _ _ h1)) alternatives-fail (either-fails _ _ h2))
       (state-fails (seat .state) refl) (either-fails _ _ h3))
       entry-fails
       (either-fails _ _ h)

@@ -7,7 +7,7 @@ use mathlib.Core.Option.{Option}
 use native.Mathlib.Nat.{eq-or-lt-of-le}
 use native.Mathlib.Omega.{arith}
 use lib.ListN.{getD}
-use Rattle.search.specs.FiveRules.{Least, Greater}
+use Rattle.search.specs.StepRules.{Least, Greater}
 use Rattle.search.proofs.CandidateWords.{LeastOf, least, nothing, next-is-least}
 
 pub data Nearest (sizes choices : List ℕ) (i a : ℕ) (placed : List ℕ) (j : ℕ) : Type 0 where

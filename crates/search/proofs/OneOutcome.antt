@@ -1,4 +1,4 @@
--- The five rules leave nothing open: at a place that number 20 lets through, what they allow after a step is what the step
+-- The rules of a step leave nothing open: at a place that number 20 lets through, what they allow after a step is what the step
 -- leaves, and no more. So who has read them has read the step.
 use Prim.Native.Nat.{ℕ, _+_, _<_}
 use mathlib.Core.Path.{_≡_, refl, sym, _∙_}
@@ -20,8 +20,8 @@ use Rattle.search.specs.declared.State.the-variants.{AtWork}
 use Rattle.search.specs.Bits.{hasBit}
 use Rattle.search.specs.Clinic.{Clinic}
 use Rattle.search.specs.Step.{step}
-use Rattle.search.specs.FiveRules.{Least, Passed, NextPair, PairEnds, NoExample, ExampleWritten}
-use Rattle.search.specs.FiveRules.{GoesOn, Tries, FiveRules}
+use Rattle.search.specs.StepRules.{Least, Passed, NextPair, PairEnds, NothingWritten, BitSet, BuildWritten}
+use Rattle.search.specs.StepRules.{GoesOn, Tries, StepRules}
 use Rattle.search.proofs.NoBits.{same-bits}
 use Rattle.search.proofs.FitsInWords.{seat-fits}
 use Rattle.search.proofs.PlaceBounds.{place-at-work}
@@ -29,7 +29,7 @@ use Rattle.search.proofs.ClinicFits.{ClinicFits}
 use Rattle.search.proofs.StepFits.{step-fits}
 use Rattle.search.proofs.PassedInWords.{passed-iff}
 use Rattle.search.proofs.NearestDepth.{Nearest, nearest}
-use Rattle.search.proofs.FiveRules.{five-rules}
+use Rattle.search.proofs.StepRules.{step-rules}
 
 one-least : {P : ℕ → Type 0} {n m : ℕ} → Least P n → Least P m → n ≡ m
 one-least {n} {m} l k = omega (arith, l .1 m (k .0), k .1 n (l .0))
@@ -46,42 +46,71 @@ one-next (NextPair.last-pair l k) (NextPair.next-option m w) = absurd (omega ari
 one-next (NextPair.last-pair l k) (NextPair.next-feature m n w) = absurd (omega arith)
 one-next (NextPair.last-pair l k) (NextPair.last-pair m n) = refl
 
-iff-same : (t u : Bool) {P : Type 0} → (t ≡ true) ↔ P → (u ≡ true) ↔ P → t ≡ u
+pub iff-same : (t u : Bool) {P : Type 0} → (t ≡ true) ↔ P → (u ≡ true) ↔ P → t ≡ u
 iff-same true u h k = sym (k .1 (h .0 refl))
 iff-same false true h k = h .1 (k .0 refl)
 iff-same false false h k = refl
 
-module _ (before x y : Clinic) (as-many : length (x .seat .masks) ≡ length (y .seat .masks)) where
+-- masks of as many features with the same bits
+one-bit-set : (i a : ℕ) (before x y : List ℕ) → length x ≡ length y → BitSet i a before x → BitSet i a before y → x ≡ y
+one-bit-set i a before x y as-many h k =
+    ext-getD 0 x y as-many
+    (λ (f : ℕ) l.
+    same-bits (getD x f 0) (getD y f 0) (λ (b : ℕ). iff-same (hasBit (getD x f 0) b) (hasBit (getD y f 0) b) (h f b) (k f b)))
+
+module _ (before x y : Clinic) (as-many-masks : length (x .seat .masks) ≡ length (y .seat .masks))
+    (as-many-alternatives : length (x .seat .alternatives) ≡ length (y .seat .alternatives)) where
   same-clinic : x .seat .state ≡ y .seat .state → x .seat .choices ≡ y .seat .choices → x .seat .masks ≡ y .seat .masks
-      → x .seat .trial ≡ y .seat .trial → x .share ≡ y .share → x ≡ y
-  same-clinic s c m t b =
-      λ k. record { seat = record { state = s k; choices = c k; masks = m k; trial = t k }; share = b k }
+      → x .seat .trial ≡ y .seat .trial → x .seat .alternatives ≡ y .seat .alternatives → x .share ≡ y .share → x ≡ y
+  same-clinic s c m t a b =
+      λ k. record { seat = record { state = s k; choices = c k; masks = m k; trial = t k; alternatives = a k }; share = b k }
 
   module _ (choices-same : x .seat .choices ≡ y .seat .choices) where
-    one-end : {sizes : List ℕ} {i a : ℕ} → PairEnds sizes i a before x × NoExample before x
-        → PairEnds sizes i a before y × NoExample before y → x ≡ y
-    one-end h k =
-        same-clinic (one-next (h .0 .next-pair) (k .0 .next-pair)) choices-same (h .1 .0 ∙ sym (k .1 .0))
-        (h .0 .nothing-placed ∙ sym (k .0 .nothing-placed)) (h .1 .1 ∙ sym (k .1 .1))
+    -- a pair's end, with whatever was written
+    one-end : {sizes : List ℕ} {i a : ℕ} → PairEnds sizes i a before x → PairEnds sizes i a before y
+        → x .seat .masks ≡ y .seat .masks → x .seat .alternatives ≡ y .seat .alternatives → x .share ≡ y .share → x ≡ y
+    one-end h k masks alternatives share =
+        same-clinic (one-next (h .next-pair) (k .next-pair)) choices-same masks
+        (h .nothing-placed ∙ sym (k .nothing-placed)) alternatives share
 
-    one-build : {sizes build : List ℕ} {i a : ℕ} → PairEnds sizes i a before x × ExampleWritten i a build before x
-        → PairEnds sizes i a before y × ExampleWritten i a build before y → x ≡ y
-    one-build h k =
-        let masks-same : x .seat .masks ≡ y .seat .masks =
-        ext-getD 0 (x .seat .masks) (y .seat .masks) as-many
-        (λ (f : ℕ) l.
-        same-bits (getD (x .seat .masks) f 0) (getD (y .seat .masks) f 0)
-        (λ (b : ℕ).
-        iff-same (hasBit (getD (x .seat .masks) f 0) b) (hasBit (getD (y .seat .masks) f 0) b)
-        (h .1 .bit-set f b) (k .1 .bit-set f b))) in
-        same-clinic (one-next (h .0 .next-pair) (k .0 .next-pair)) choices-same masks-same
-        (h .0 .nothing-placed ∙ sym (k .0 .nothing-placed)) (h .1 .bytes-written ∙ sym (k .1 .bytes-written))
+    one-end-without : {sizes : List ℕ} {i a : ℕ} → PairEnds sizes i a before x × NothingWritten before x
+        → PairEnds sizes i a before y × NothingWritten before y → x ≡ y
+    one-end-without h k =
+        one-end (h .0) (k .0) (h .1 .masks-stay ∙ sym (k .1 .masks-stay))
+        (h .1 .alternatives-stay ∙ sym (k .1 .alternatives-stay)) (h .1 .share-stays ∙ sym (k .1 .share-stays))
+
+    one-build : {sizes build : List ℕ} {i a : ℕ} → PairEnds sizes i a before x × BuildWritten i a build before x
+        → PairEnds sizes i a before y × BuildWritten i a build before y → x ≡ y
+    one-build {i = i} {a = a} h k = go (eqb choice 255) (eqb choice a) refl refl
+      where
+        choice : ℕ
+        choice = getD (before .seat .choices) i 255
+
+        as-example : (choice ≡ 255) ⊎ (choice ≡ a) → x ≡ y
+        as-example free =
+            let u = h .1 .otherwise free in
+            let v = k .1 .otherwise free in
+            one-end (h .0) (k .0) (one-bit-set i a (before .seat .masks) (x .seat .masks) (y .seat .masks) as-many-masks (u .bit-set) (v .bit-set))
+            (u .alternatives-stay ∙ sym (v .alternatives-stay)) (u .bytes-written ∙ sym (v .bytes-written))
+
+        go : (t u : Bool) → eqb choice 255 ≡ t → eqb choice a ≡ u → x ≡ y
+        go true u e f = as-example (inl (eqb-true choice 255 e))
+        go false true e f = as-example (inr (eqb-true choice a f))
+        go false false e f =
+            let u = h .1 .chosen-otherwise (eqb-false choice 255 e) (eqb-false choice a f) in
+            let v = k .1 .chosen-otherwise (eqb-false choice 255 e) (eqb-false choice a f) in
+            one-end (h .0) (k .0) (u .masks-stay ∙ sym (v .masks-stay))
+            (one-bit-set i a (before .seat .alternatives) (x .seat .alternatives) (y .seat .alternatives) as-many-alternatives
+            (u .bit-set) (v .bit-set))
+            (u .share-stays ∙ sym (v .share-stays))
 
     one-place : {placed : List ℕ} {i a d w : ℕ} → GoesOn i a d w placed before x → GoesOn i a d w placed before y → x ≡ y
     one-place h k =
-        same-clinic (h .at-place ∙ sym (k .at-place)) choices-same
-        (h .no-example .0 ∙ sym (k .no-example .0)) (h .kept-before ∙ sym (k .kept-before))
-        (h .no-example .1 ∙ sym (k .no-example .1))
+        let u = h .nothing-written in
+        let v = k .nothing-written in
+        same-clinic (h .at-place ∙ sym (k .at-place)) choices-same (u .masks-stay ∙ sym (v .masks-stay))
+        (h .kept-before ∙ sym (k .kept-before)) (u .alternatives-stay ∙ sym (v .alternatives-stay))
+        (u .share-stays ∙ sym (v .share-stays))
 
     one-try : (catalogue : Catalogue) → faultOf catalogue ≡ 0 → (i a j : ℕ) → j < length (catalogue .sizes)
         → (choices placed : List ℕ) → Tries catalogue i a j choices placed before x
@@ -94,7 +123,7 @@ module _ (before x y : Clinic) (as-many : length (x .seat .masks) ≡ length (y 
         back : (Passed catalogue j placed → ⊥) → Nearest (catalogue .sizes) choices i a placed j → x ≡ y
         back broken (Nearest.found d w l least between) =
             one-place (h .next-or-back broken d w l least between) (k .next-or-back broken d w l least between)
-        back broken (Nearest.nowhere empty) = one-end (h .none-greater broken empty) (k .none-greater broken empty)
+        back broken (Nearest.nowhere empty) = one-end-without (h .none-greater broken empty) (k .none-greater broken empty)
 
         go : (t : Bool) → passes (rulesOf catalogue) j placed ≡ t → x ≡ y
         go true e =
@@ -111,33 +140,19 @@ module _ (before x y : Clinic) (as-many : length (x .seat .masks) ≡ length (y 
             (nearest (catalogue .sizes) choices i a placed j)
 
   one-outcome : (catalogue : Catalogue) → faultOf catalogue ≡ 0 → (i a j v : ℕ) → j < length (catalogue .sizes)
-      → FiveRules catalogue i a j v before x → FiveRules catalogue i a j v before y → x ≡ y
-  one-outcome catalogue fault i a j v within h k = go (eqb choice 255) (eqb choice a) refl refl
-    where
-      choice : ℕ
-      choice = getD (before .seat .choices) i 255
-
-      stay : x .seat .choices ≡ y .seat .choices
-      stay = h .choices-stay ∙ sym (k .choices-stay)
-
-      tries : (choice ≡ 255) ⊎ (choice ≡ a) → x ≡ y
-      tries free =
-          one-try stay catalogue fault i a j within (before .seat .choices) (set (before .seat .trial) j v)
-          (h .otherwise free) (k .otherwise free)
-
-      go : (t u : Bool) → eqb choice 255 ≡ t → eqb choice a ≡ u → x ≡ y
-      go true u e f = tries (inl (eqb-true choice 255 e))
-      go false true e f = tries (inr (eqb-true choice a f))
-      go false false e f =
-          let some = eqb-false choice 255 e in
-          let other = eqb-false choice a f in
-          one-end stay (h .chosen-otherwise some other) (k .chosen-otherwise some other)
+      → StepRules catalogue i a j v before x → StepRules catalogue i a j v before y → x ≡ y
+  one-outcome catalogue fault i a j v within h k =
+      one-try (h .choices-stay ∙ sym (k .choices-stay)) catalogue fault i a j within (before .seat .choices)
+      (set (before .seat .trial) j v) (h .tries) (k .tries)
 
 pub only-the-step : (catalogue : Catalogue) (clinic : Clinic) → faultOf catalogue ≡ 0 → ClinicFits catalogue clinic
     → (p : Place) → clinic .seat .state ≡ AtWork p → (after : Clinic) → length (after .seat .masks) ≡ 16
-    → FiveRules catalogue (p .feature) (p .option) (p .depth) (p .next) clinic after → after ≡ step catalogue clinic
-only-the-step catalogue clinic fault fits p at-work after sixteen rules =
+    → length (after .seat .alternatives) ≡ 16
+    → StepRules catalogue (p .feature) (p .option) (p .depth) (p .next) clinic after → after ≡ step catalogue clinic
+only-the-step catalogue clinic fault fits p at-work after sixteen sixteen-too rules =
     let place = place-at-work catalogue fault (clinic .seat) (seat-fits catalogue (clinic .seat) (fits .fits)) p at-work in
-    one-outcome clinic after (step catalogue clinic) (sixteen ∙ sym (step-fits catalogue fault clinic fits .all-masks))
+    let stepped = step-fits catalogue fault clinic fits in
+    one-outcome clinic after (step catalogue clinic) (sixteen ∙ sym (stepped .all-masks))
+    (sixteen-too ∙ sym (stepped .all-alternatives))
     catalogue fault (p .feature) (p .option) (p .depth) (p .next) (place .depth-below) rules
-    (five-rules catalogue clinic fault fits p at-work)
+    (step-rules catalogue clinic fault fits p at-work)

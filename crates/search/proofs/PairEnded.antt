@@ -1,5 +1,6 @@
 -- How a pair ends, in words: the next pair starts in the same step, or the seat is ready after the last; and a build that
--- was found sets the pair's own bit and no other, and is written at the pair's own place.
+-- was found sets the pair's own bit and no other, and is written at the pair's own place; chosen otherwise, it sets that
+-- bit among the alternatives, and nothing else.
 use Prim.Native.Nat.{ℕ, _+_, _<_}
 use mathlib.Core.Path.{_≡_, refl}
 use mathlib.Core.Logic.{_↔_, _⊎_, inl, inr, ⊎-elim}
@@ -12,12 +13,15 @@ use lib.Dec.{ltb, eqb}
 use borrow.Author.Tests.{ltb-true, ltb-false, eqb-true, eqb-false}
 use Rattle.builds.specs.Catalogue.{Catalogue, sizeOf}
 use Rattle.builds.specs.Fault.{faultOf}
-use Rattle.search.specs.Bits.{hasBit, withBit}
-use Rattle.search.specs.Clinic.{Clinic, withExample}
+use Rattle.search.specs.Bits.{hasBit, withBit, withBitAt}
+use Rattle.search.specs.Clinic.{Clinic, withExample, withAlternative}
 use Rattle.search.specs.Candidates.{firstCandidate}
-use Rattle.search.specs.Step.{afterPair, pairEnded}
-use Rattle.search.specs.FiveRules.{Candidate, Least, NextPair, PairEnds, NoExample, ExampleWritten}
+use Rattle.search.specs.Step.{afterPair, pairEnded, withBuild}
+use Rattle.search.specs.StepRules.{Candidate, Least, NextPair, PairEnds, NothingWritten}
+use Rattle.search.specs.StepRules.{BitSet, BuildWritten}
 use Rattle.search.proofs.Bits.{has-own, has-other}
+use Rattle.search.proofs.SetAside.{is-otherwise, is-free}
+use Rattle.search.proofs.WithBuild.{build-choices}
 use Rattle.search.proofs.PlaceBounds.{first-has-option}
 use Rattle.search.proofs.CandidateWords.{first-is-least}
 
@@ -33,9 +37,7 @@ bit-with mask a b = go (eqb b a) refl
           λ h. rw (has-other mask a b other) (⊎-elim (λ k. k) (λ (same : b ≡ a). absurd (other same)) h),
         )
 
-bits-with : (masks : List ℕ) (i a : ℕ) → i < length masks → (f b : ℕ)
-    → (hasBit (getD (set masks i (withBit (getD masks i 0) a)) f 0) b ≡ true)
-    ↔ ((hasBit (getD masks f 0) b ≡ true) ⊎ ((f ≡ i) × (b ≡ a)))
+bits-with : (masks : List ℕ) (i a : ℕ) → i < length masks → BitSet i a masks (withBitAt i a masks)
 bits-with masks i a within f b = go (eqb f i) refl
   where
     more : ℕ
@@ -81,18 +83,40 @@ module _ (catalogue : Catalogue) (fault : faultOf catalogue ≡ 0) (i a : ℕ) (
 
   module _ (clinic : Clinic) where
     pub ends-without : PairEnds (catalogue .sizes) i a clinic (pairEnded (catalogue .sizes) i a clinic)
-        × NoExample clinic (pairEnded (catalogue .sizes) i a clinic)
+        × NothingWritten clinic (pairEnded (catalogue .sizes) i a clinic)
     unfolding pairEnded
     ends-without = (
       record { next-pair = next-pair (clinic .seat .choices); nothing-placed = refl },
-      (refl, refl),
+      record { masks-stay = refl; share-stays = refl; alternatives-stay = refl },
     )
 
-    pub ends-with : i < length (clinic .seat .masks) → (build : List ℕ)
-        → PairEnds (catalogue .sizes) i a clinic (pairEnded (catalogue .sizes) i a (withExample i a build clinic))
-        × ExampleWritten i a build clinic (pairEnded (catalogue .sizes) i a (withExample i a build clinic))
-    unfolding pairEnded withExample
-    ends-with within build = (
-      record { next-pair = next-pair (clinic .seat .choices); nothing-placed = refl },
-      record { bit-set = bits-with (clinic .seat .masks) i a within; bytes-written = refl },
-    )
+    module _ (build : List ℕ) where
+      abbrev found : Clinic
+      found = withBuild (clinic .seat .choices) i a build clinic
+
+      pub ends-found : PairEnds (catalogue .sizes) i a clinic (pairEnded (catalogue .sizes) i a found)
+      unfolding pairEnded
+      ends-found = record {
+        next-pair = rw (build-choices (clinic .seat .choices) i a build clinic) (next-pair (clinic .seat .choices));
+        nothing-placed = refl;
+      }
+
+      pub writes-found : i < length (clinic .seat .masks) → i < length (clinic .seat .alternatives)
+          → BuildWritten i a build clinic (pairEnded (catalogue .sizes) i a found)
+      unfolding pairEnded withExample withAlternative
+      writes-found has-mask has-alternatives =
+          let choice = getD (clinic .seat .choices) i 255 in
+          record {
+            chosen-otherwise = λ (some : choice ≡ 255 → ⊥) (other : choice ≡ a → ⊥).
+                rw (is-otherwise (clinic .seat .choices) i a some other) (record {
+                  bit-set = bits-with (clinic .seat .alternatives) i a has-alternatives;
+                  masks-stay = refl;
+                  share-stays = refl;
+                });
+            otherwise = λ (free : (choice ≡ 255) ⊎ (choice ≡ a)).
+                rw (is-free (clinic .seat .choices) i a free) (record {
+                  bit-set = bits-with (clinic .seat .masks) i a has-mask;
+                  bytes-written = refl;
+                  alternatives-stay = refl;
+                });
+          }

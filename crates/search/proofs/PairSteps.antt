@@ -1,8 +1,8 @@
--- A pair takes as many steps as `pairSearch` counts, every one of them at work on that pair, and its example is then what
--- that search finds: rule 1 ends a pair in one step, and any other is the search from depth 0 with nothing placed.
+-- A pair takes as many steps as `pairSearch` counts, every one of them at work on that pair, and what that search finds is
+-- then written: it is the search from depth 0 with nothing placed.
 use Prim.Native.Nat.{ℕ, zero, suc, _≤_, _<_}
 use mathlib.Core.Path.{_≡_, refl}
-use mathlib.Core.Bool.{Bool, true, false, cond}
+use mathlib.Core.Bool.{Bool, cond}
 use mathlib.Core.List.{List, [], _∷_}
 use mathlib.Core.Option.{Option, none, some}
 use native.Mathlib.Omega.{arith}
@@ -11,21 +11,20 @@ use Rattle.builds.specs.Catalogue.{Catalogue, rulesOf}
 use Rattle.builds.specs.Rule.{passes}
 use Rattle.builds.specs.Fault.{faultOf}
 use Rattle.builds.proofs.Faultless.{fault-zero, sizesFault-at}
-use Rattle.search.specs.declared.Place.{Place}
 use Rattle.search.specs.declared.State.{State}
-use Rattle.search.specs.Clinic.{Clinic, nothing16, moved, withExample}
-use Rattle.search.specs.Candidates.{candidates, firstCandidate, chosenOtherwise}
-use Rattle.search.specs.Step.{started, pairEnded, afterTried, stepAt, stepFrom, step, steps}
-use Rattle.search.specs.Count.{Search, nothingTried, oneStep, orLater, searchEach, searchFrom, searchFor, pairSearch}
+use Rattle.search.specs.Clinic.{Clinic, nothing16, moved}
+use Rattle.search.specs.Candidates.{candidates}
+use Rattle.search.specs.Step.{started, pairEnded, withBuild, afterTried, steps}
+use Rattle.search.specs.Count.{Search, nothingTried, oneStep, orLater, searchEach, searchFrom, pairSearch}
 use Rattle.search.proofs.TakesSteps.{TakesSteps, WorkingOn, takes-steps, takes-before, takes-to, takes-from}
 use Rattle.search.proofs.CandidatesInOrder.{firstOf, candidates-first}
 use Rattle.search.proofs.GivenUp.{PlacedBelow, depthExhausted}
 use Rattle.search.proofs.SearchSteps.{foundOr, follow-from}
 
--- a clinic with the example that a search found, if it found one
-abbrev pub withFound : ℕ → ℕ → Option (List ℕ) → Clinic → Clinic
-withFound i a none clinic = clinic
-withFound i a (some trial) clinic = withExample i a trial clinic
+-- a clinic with the build that a search found, if it found one
+abbrev pub withFound : List ℕ → ℕ → ℕ → Option (List ℕ) → Clinic → Clinic
+withFound choices i a none clinic = clinic
+withFound choices i a (some trial) clinic = withBuild choices i a trial clinic
 
 -- a clinic about to begin the pair of feature i and option a, under some choices
 pub record Begins (sizes choices : List ℕ) (i a : ℕ) (clinic : Clinic) : Type 0 where
@@ -45,12 +44,12 @@ pub stays : (clinic : Clinic) {state : State} {trial : List ℕ} → clinic .sea
     → clinic ≡ moved state trial clinic
 stays clinic e f = λ k. moved (e k) (f k) clinic
 
-ended-after : (sizes choices : List ℕ) (i a : ℕ) (clinic : Clinic) (found : Option (List ℕ))
-    → afterTried sizes i a clinic (foundOr found (depthExhausted sizes choices i a 0 nothing16))
-    ≡ pairEnded sizes i a (withFound i a found clinic)
+ended-after : (sizes : List ℕ) (i a : ℕ) (clinic : Clinic) (found : Option (List ℕ))
+    → afterTried sizes i a clinic (foundOr found (depthExhausted sizes (clinic .seat .choices) i a 0 nothing16))
+    ≡ pairEnded sizes i a (withFound (clinic .seat .choices) i a found clinic)
 unfolding afterTried depthExhausted
-ended-after sizes choices i a clinic none = refl
-ended-after sizes choices i a clinic (some trial) = refl
+ended-after sizes i a clinic none = refl
+ended-after sizes i a clinic (some trial) = refl
 
 -- in a catalogue without a fault every feature has an option
 pub some-option : (catalogue : Catalogue) → faultOf catalogue ≡ 0 → (j : ℕ) → j < length (catalogue .sizes)
@@ -66,39 +65,24 @@ module _ (catalogue : Catalogue) (fault : faultOf catalogue ≡ 0) (i a : ℕ) w
     choices = clinic .seat .choices
 
     abbrev TakesTo : Search → Type 0
-    TakesTo sought = TakesSteps catalogue (WorkingOn i a) (sought .count) clinic (pairEnded sizes i a (withFound i a (sought .found) clinic))
+    TakesTo sought = TakesSteps catalogue (WorkingOn i a) (sought .count) clinic
+        (pairEnded sizes i a (withFound choices i a (sought .found) clinic))
 
     -- the search from depth 0 with so many features to be placed
     abbrev searchWith : ℕ → Search
     searchWith n = searchFrom (passes (rulesOf catalogue)) (candidates sizes choices i a) n 0 nothing16
 
-    ends-at-once : chosenOtherwise choices i a ≡ true → TakesTo (oneStep nothingTried)
-    unfolding step stepFrom stepAt
-    ends-at-once h =
-        let here : Place = record { feature = i; option = a; depth = 0; next = firstCandidate sizes choices i a 0 } in
-        let over : step catalogue clinic ≡ pairEnded sizes i a clinic = rw (begins .state-is, h) refl in
-        TakesSteps.first (record { place = here; at-work = begins .state-is; feature = refl; option = refl })
-        (takes-from over TakesSteps.none)
-
-    searches : chosenOtherwise choices i a ≡ false → TakesTo (searchFor catalogue choices i a)
-    unfolding searchFor afterTried
-    searches h = go (length sizes) refl
+    pair-takes-own : TakesTo (pairSearch catalogue choices i a)
+    unfolding pairSearch afterTried
+    pair-takes-own = go (length sizes) refl
       where
         go : (n : ℕ) → length sizes ≡ n → TakesTo (searchWith n)
         go zero e = absurd (omega (arith, fault-zero catalogue fault .some-feature))
         go (suc m) e =
             takes-from (stays clinic (begins .state-is) (begins .trial-is))
-            (takes-to (ended-after sizes choices i a clinic (searchWith (suc m) .found))
-            (follow-from catalogue i a clinic h (some-option catalogue fault) (suc m) 0 nothing16 (omega arith)
+            (takes-to (ended-after sizes i a clinic (searchWith (suc m) .found))
+            (follow-from catalogue i a clinic (some-option catalogue fault) (suc m) 0 nothing16 (omega arith)
             (nothing-placed (fault-zero catalogue fault .few-features))))
-
-    pair-takes-own : TakesTo (pairSearch catalogue choices i a)
-    unfolding pairSearch
-    pair-takes-own = go (chosenOtherwise choices i a) refl
-      where
-        go : (t : Bool) → chosenOtherwise choices i a ≡ t → TakesTo (cond t (oneStep nothingTried) (searchFor catalogue choices i a))
-        go true h = ends-at-once h
-        go false h = searches h
 
 -- a search with a candidate to try takes a step
 each-counts : (test : ℕ → List ℕ → Bool) (deeper : List ℕ → Search) (j : ℕ) (trial vs : List ℕ) (v : ℕ) → firstOf vs ≡ some v
@@ -119,24 +103,22 @@ each-counts test deeper j trial (w ∷ vs) v e = go (oneStep here) (omega arith)
 
 module _ (catalogue : Catalogue) (fault : faultOf catalogue ≡ 0) (choices : List ℕ) (i a : ℕ) where
   pub pair-counts : 1 ≤ pairSearch catalogue choices i a .count
-  unfolding pairSearch searchFor searchFrom
-  pair-counts = go (chosenOtherwise choices i a) (length (catalogue .sizes)) some-feature
+  unfolding pairSearch searchFrom
+  pair-counts = go (length (catalogue .sizes)) some-feature
     where
       some-feature : 1 ≤ length (catalogue .sizes)
       some-feature = fault-zero catalogue fault .some-feature
 
-      go : (t : Bool) (n : ℕ) → 1 ≤ n
-          → 1 ≤ cond t (oneStep nothingTried)
-          (searchFrom (passes (rulesOf catalogue)) (candidates (catalogue .sizes) choices i a) n 0 nothing16) .count
-      go true n l = omega arith
-      go false zero l = absurd (omega arith)
-      go false (suc m) l =
+      go : (n : ℕ) → 1 ≤ n
+          → 1 ≤ searchFrom (passes (rulesOf catalogue)) (candidates (catalogue .sizes) choices i a) n 0 nothing16 .count
+      go zero l = absurd (omega arith)
+      go (suc m) l =
           each-counts _ _ _ _ _ _
           (candidates-first (catalogue .sizes) choices i a 0 (some-option catalogue fault 0 some-feature))
 
   module _ (clinic : Clinic) (begins : Begins (catalogue .sizes) choices i a clinic) where
     abbrev ended : Clinic
-    ended = pairEnded (catalogue .sizes) i a (withFound i a (pairSearch catalogue choices i a .found) clinic)
+    ended = pairEnded (catalogue .sizes) i a (withFound choices i a (pairSearch catalogue choices i a .found) clinic)
 
     pub pair-takes : TakesSteps catalogue (WorkingOn i a) (pairSearch catalogue choices i a .count) clinic ended
     pair-takes = rw (← begins .choices-are) (pair-takes-own catalogue fault i a clinic own)

@@ -16,7 +16,7 @@ use Rattle.builds.specs.Fault.{faultOf}
 use Rattle.builds.proofs.Every.{every-head, every-tail, every-weaken}
 use Rattle.builds.proofs.Format.{accepted-iff, read-back}
 use Rattle.builds.proofs.RulesByFeature.{none-tested, more-passed}
-use Rattle.search.specs.FiveRules.{Passed}
+use Rattle.search.specs.StepRules.{Passed}
 
 all-below : (features : List ℕ) (j : ℕ) → highest features ≤ j → Every (λ (f : ℕ). f ≤ j) features
 unfolding highest

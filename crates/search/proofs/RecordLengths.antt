@@ -1,4 +1,5 @@
--- What the type of a record tells of its value: it has sixteen choices, masks and trial entries.
+-- What the type of a record tells of its value: it has sixteen choices, masks, trial entries and
+-- alternatives.
 use Prim.Native.Nat.{ℕ}
 use mathlib.Core.Path.{_≡_, sym, _∙_}
 use mathlib.Core.List.{List, map}
@@ -17,4 +18,5 @@ one-seat seat value h = record {
   all-choices = numbers (seat .choices) 16 (h .1 .1 .1 .0 .1 .0 .1);
   all-masks = numbers (seat .masks) 16 (h .1 .1 .1 .1 .0 .1 .0 .1);
   all-entries = numbers (seat .trial) 16 (h .1 .1 .1 .1 .1 .0 .1 .0 .1);
+  all-alternatives = numbers (seat .alternatives) 16 (h .1 .1 .1 .1 .1 .1 .0 .1 .0 .1);
 }

@@ -1,31 +1,23 @@
--- The choices with feature i's own set aside have none at i, and elsewhere what they were. A build with a at i keeps the
--- choices exactly if it keeps these, unless i is chosen otherwise, which is rule 1's case: then it does not keep them.
-use Prim.Native.Nat.{ℕ, zero, suc, _<_}
+-- A build with a at i keeps the choices exactly if it keeps them with feature i's own set aside, unless i is chosen
+-- otherwise: then no build with a at i keeps them, and a is an alternative.
+use Prim.Native.Nat.{ℕ, _<_}
 use mathlib.Core.Path.{_≡_, refl, sym, _∙_}
 use mathlib.Core.Logic.{_⊎_, inl, inr, ⊎-elim, _↔_}
-use mathlib.Core.Bool.{Bool, true, false, not, _&&_, true≢false, false≢true}
-use mathlib.Core.List.{List, [], _∷_}
+use mathlib.Core.Bool.{Bool, true, false, not, _&&_, true≢false, false≢true, and-false}
+use mathlib.Core.List.{List}
 use lib.ListN.{length, getD}
-use lib.Seq.{getD-set-other}
 use lib.Dec.{eqb}
-use borrow.Author.Tests.{eqb-true, eqb-false}
+use borrow.Author.Tests.{eqb-true, eqb-false, eq-eqb, ne-eqb}
 use Rattle.builds.specs.Rule.{optionAt}
 use Rattle.builds.specs.Catalogue.{Catalogue}
 use Rattle.builds.specs.Build.{BuildWith, FirstWith}
-use Rattle.search.specs.Candidates.{setAside, chosenOtherwise}
+use Rattle.builds.specs.Alternative.{setAside}
+use Rattle.builds.proofs.Alternatives.{others-stay, under, keeps-others}
+use Rattle.search.specs.Candidates.{chosenOtherwise}
 
--- however many choices are listed: one that is not is none too
-pub none-there : (choices : List ℕ) (i : ℕ) → getD (setAside choices i) i 255 ≡ 255
-none-there [] i = refl
-none-there (c ∷ choices) zero = refl
-none-there (c ∷ choices) (suc i) = none-there choices i
+-- ---- chosen otherwise, or not
 
-pub others-stay : (choices : List ℕ) (i f : ℕ) → (f ≡ i → ⊥) → getD (setAside choices i) f 255 ≡ getD choices f 255
-others-stay choices i f other = getD-set-other choices i f 255 255 other
-
--- ---- rule 1
-
-chosen-otherwise : (choices : List ℕ) (i a : ℕ) → chosenOtherwise choices i a ≡ true
+pub chosen-otherwise : (choices : List ℕ) (i a : ℕ) → chosenOtherwise choices i a ≡ true
     → (getD choices i 255 ≡ 255 → ⊥) × (getD choices i 255 ≡ a → ⊥)
 chosen-otherwise choices i a h = go (eqb (getD choices i 255) 255) (eqb (getD choices i 255) a) refl refl h
   where
@@ -35,7 +27,7 @@ chosen-otherwise choices i a h = go (eqb (getD choices i 255) 255) (eqb (getD ch
     go false true ep eq t = absurd (false≢true t)
     go false false ep eq t = (eqb-false _ _ ep, eqb-false _ _ eq)
 
-not-otherwise : (choices : List ℕ) (i a : ℕ) → chosenOtherwise choices i a ≡ false
+pub not-otherwise : (choices : List ℕ) (i a : ℕ) → chosenOtherwise choices i a ≡ false
     → (getD choices i 255 ≡ 255) ⊎ (getD choices i 255 ≡ a)
 not-otherwise choices i a h = go (eqb (getD choices i 255) 255) (eqb (getD choices i 255) a) refl refl h
   where
@@ -44,6 +36,17 @@ not-otherwise choices i a h = go (eqb (getD choices i 255) 255) (eqb (getD choic
     go true q ep eq t = inl (eqb-true _ _ ep)
     go false true ep eq t = inr (eqb-true _ _ eq)
     go false false ep eq t = absurd (true≢false t)
+
+pub is-otherwise : (choices : List ℕ) (i a : ℕ) → (getD choices i 255 ≡ 255 → ⊥) → (getD choices i 255 ≡ a → ⊥)
+    → chosenOtherwise choices i a ≡ true
+is-otherwise choices i a some other = rw (ne-eqb (getD choices i 255) 255 some, ne-eqb (getD choices i 255) a other) refl
+
+pub is-free : (choices : List ℕ) (i a : ℕ) → (getD choices i 255 ≡ 255) ⊎ (getD choices i 255 ≡ a)
+    → chosenOtherwise choices i a ≡ false
+is-free choices i a free =
+    let choice = getD choices i 255 in
+    ⊎-elim (λ (e : choice ≡ 255). rw (eq-eqb choice 255 e) refl)
+    (λ (e : choice ≡ a). rw (eq-eqb choice a e) (and-false (not (eqb choice 255)))) free
 
 -- ---- builds
 
@@ -54,32 +57,14 @@ module _ (catalogue : Catalogue) (choices : List ℕ) (i a : ℕ) where
       let other = chosen-otherwise choices i a otherwise in
       other .1 (sym (b .is-build .every-choice i feature (other .0)) ∙ b .contains)
 
-  -- the same build under other choices that it keeps
-  under : {those these build : List ℕ} → BuildWith catalogue those i a build
-      → ((f : ℕ) → f < length (catalogue .sizes) → (getD these f 255 ≡ 255 → ⊥) → optionAt build f ≡ getD these f 255)
-      → BuildWith catalogue these i a build
-  under b keeps =
-      record {
-        is-build = record {
-          complete = b .is-build .complete;
-          within = b .is-build .within;
-          every-rule = b .is-build .every-rule;
-          every-choice = keeps;
-        };
-        contains = b .contains;
-      }
-
   keeps-these : (build : List ℕ) → BuildWith catalogue choices i a build → BuildWith catalogue (setAside choices i) i a build
-  keeps-these build b = under b (λ f l. go f l (eqb f i) refl)
-    where
-      go : (f : ℕ) → f < length (catalogue .sizes) → (at : Bool) → eqb f i ≡ at → (getD (setAside choices i) f 255 ≡ 255 → ⊥)
-          → optionAt build f ≡ getD (setAside choices i) f 255
-      go f l true e = let here = eqb-true f i e in rw here (λ chosen. absurd (chosen (none-there choices i)))
-      go f l false e = rw (others-stay choices i f (eqb-false f i e)) (b .is-build .every-choice f l)
+  keeps-these build b =
+      let others = keeps-others catalogue choices i build .1 (λ f l other. b .is-build .every-choice f l) in
+      record { is-build = under (b .is-build) others; contains = b .contains }
 
   module _ (free : chosenOtherwise choices i a ≡ false) where
     keeps-all : (build : List ℕ) → BuildWith catalogue (setAside choices i) i a build → BuildWith catalogue choices i a build
-    keeps-all build b = under b (λ f l. go f l (eqb f i) refl)
+    keeps-all build b = record { is-build = under (b .is-build) (λ f l. go f l (eqb f i) refl); contains = b .contains }
       where
         go : (f : ℕ) → f < length (catalogue .sizes) → (at : Bool) → eqb f i ≡ at → (getD choices f 255 ≡ 255 → ⊥)
             → optionAt build f ≡ getD choices f 255

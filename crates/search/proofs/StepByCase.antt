@@ -1,5 +1,5 @@
--- What the definition of a step at a place comes to, case by case: rule 1 ends the pair; otherwise what comes of trying
--- is followed, and that is a build, one depth more, or an option given up.
+-- What the definition of a step at a place comes to, case by case: what comes of trying is followed, and that is a build,
+-- one depth more, or an option given up.
 use Prim.Native.Nat.{ℕ, _+_, _<_}
 use mathlib.Core.Path.{_≡_, refl}
 use mathlib.Core.Bool.{true, false}
@@ -12,23 +12,18 @@ use Rattle.builds.specs.Rule.{passes}
 use Rattle.search.specs.declared.Place.{Place}
 use Rattle.search.specs.declared.State.the-variants.{AtWork}
 use Rattle.search.specs.Clinic.{Clinic}
-use Rattle.search.specs.Candidates.{firstCandidate, chosenOtherwise}
-use Rattle.search.specs.Step.{Tried, goOn, build, givenUp, tried, pairEnded, afterTried, stepAt, stepFrom, step}
+use Rattle.search.specs.Candidates.{firstCandidate}
+use Rattle.search.specs.Step.{Tried, goOn, build, givenUp, tried, afterTried, stepAt, stepFrom, step}
 
 module _ (catalogue : Catalogue) (clinic : Clinic) (p : Place) (at-work : clinic .seat .state ≡ AtWork p) where
   -- what comes of trying at the place
   abbrev pub triedAt : Tried
   triedAt = tried catalogue (clinic .seat .choices) (p .feature) (p .option) (p .depth) (p .next) (clinic .seat .trial)
 
-  pub ended : chosenOtherwise (clinic .seat .choices) (p .feature) (p .option) ≡ true
-      → step catalogue clinic ≡ pairEnded (catalogue .sizes) (p .feature) (p .option) clinic
-  unfolding step stepFrom stepAt
-  ended h = rw (at-work, h) refl
-
-  pub followed : chosenOtherwise (clinic .seat .choices) (p .feature) (p .option) ≡ false → (t : Tried) → triedAt ≡ t
+  pub followed : (t : Tried) → triedAt ≡ t
       → step catalogue clinic ≡ afterTried (catalogue .sizes) (p .feature) (p .option) clinic t
   unfolding step stepFrom stepAt
-  followed h t e = rw (at-work, h, e) refl
+  followed t e = rw (at-work, e) refl
 
 module _ (catalogue : Catalogue) (choices : List ℕ) (i a j v : ℕ) (trial : List ℕ) where
   pub passed-last : passes (rulesOf catalogue) j (set trial j v) ≡ true → j + 1 ≡ length (catalogue .sizes)

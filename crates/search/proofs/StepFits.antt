@@ -1,12 +1,12 @@
 -- A step leaves a clinic that fits the catalogue fitting it, with arrays and share of their lengths, and so does posting a
 -- job under choices that fit. A step places options of their features, starts pairs of the catalogue alone, and sets a bit
--- in a mask only for an option of its feature.
+-- in a mask only for an option of its feature, in that of the alternatives only where a choice is in force.
 use Prim.Native.Nat.{ℕ, _+_, _<_}
-use mathlib.Core.Path.{_≡_, refl}
+use mathlib.Core.Path.{_≡_, refl, _∙_}
 use mathlib.Core.Bool.{Bool, true, false, cond}
 use mathlib.Core.List.{List}
 use native.Mathlib.Omega.{arith}
-use lib.ListN.{length, length-replicate}
+use lib.ListN.{length, length-map, length-replicate}
 use lib.Pow.{pow-pos}
 use lib.Dec.{ltb}
 use borrow.Author.Tests.{ltb-true}
@@ -16,16 +16,18 @@ use Rattle.builds.proofs.Faultless.{fault-zero}
 use Rattle.search.specs.declared.Place.{Place}
 use Rattle.search.specs.declared.State.{State}
 use Rattle.search.specs.declared.State.the-variants.{Closed, Ready, AtWork}
-use Rattle.search.specs.Clinic.{Clinic, nothing16, withExample}
+use Rattle.search.specs.Clinic.{Clinic, nothing16, inForce, withExample, withAlternative}
 use Rattle.search.specs.Candidates.{chosenOtherwise}
-use Rattle.search.specs.Step.{Tried, started, afterPair, pairEnded, afterTried, tried, stepAt, stepFrom, step, posted}
+use Rattle.search.specs.Step.{Tried, started, afterPair, pairEnded, withBuild, afterTried, stepAt, stepFrom, step, posted}
 use Rattle.search.specs.RecordFits.{depthOf}
 use Rattle.search.proofs.FitsInWords.{PlaceFits, SeatFits, seat-fits}
 use Rattle.search.proofs.PlaceBounds.{first-has-option, size-within, feature-below-16, option-below-16}
 use Rattle.search.proofs.PairSteps.{same-again}
 use Rattle.search.proofs.CandidatesBelow.{ChoicesWithin, first-below}
 use Rattle.search.proofs.TrialFits.{TrialFits, nothing-placed, TriedFits, on-fits, build-fits, nothing-fits, tried-fits}
-use Rattle.search.proofs.ClinicFits.{ClinicFits, HoldingFits, OpenFits, ready, at-work, moved-fits, clinic-holds, example-holds}
+use Rattle.search.proofs.ClinicFits.{ClinicFits, HoldingFits, OpenFits, ready, at-work, moved-fits}
+use Rattle.search.proofs.ClinicFits.{clinic-holds, example-holds, alternative-holds, in-force-below}
+use Rattle.search.proofs.SetAside.{chosen-otherwise}
 
 module _ (catalogue : Catalogue) (fault : faultOf catalogue ≡ 0) where
   module _ (choices : List ℕ) (choices-within : ChoicesWithin catalogue choices) where
@@ -90,29 +92,27 @@ module _ (catalogue : Catalogue) (fault : faultOf catalogue ≡ 0) where
         }))
         trial trial-fits
     after-tried-fits (build-fits {trial} full) =
-        pair-ended-fits (p .feature) (p .option) (within .feature-below) (withExample (p .feature) (p .option) trial clinic)
-        (example-holds catalogue (p .feature) (p .option) (feature-below-16 catalogue fault within)
-        (option-below-16 catalogue fault within) (within .option-below) trial full clinic holds)
+        pair-ended-fits (p .feature) (p .option) (within .feature-below)
+        (withBuild (clinic .seat .choices) (p .feature) (p .option) trial clinic)
+        (go (chosenOtherwise (clinic .seat .choices) (p .feature) (p .option)) refl)
+      where
+        go : (otherwise : Bool) → chosenOtherwise (clinic .seat .choices) (p .feature) (p .option) ≡ otherwise
+            → HoldingFits catalogue
+            (cond otherwise (withAlternative (p .feature) (p .option) clinic) (withExample (p .feature) (p .option) trial clinic))
+        go true e =
+            alternative-holds catalogue (p .feature) (p .option) (within .option-below) clinic
+            (chosen-otherwise (clinic .seat .choices) (p .feature) (p .option) e .0) holds
+        go false e =
+            example-holds catalogue (p .feature) (p .option) (feature-below-16 catalogue fault within)
+            (option-below-16 catalogue fault within) (within .option-below) trial full clinic holds
     after-tried-fits nothing-fits = pair-ended-fits (p .feature) (p .option) (within .feature-below) clinic holds
 
     step-at-fits : TrialFits catalogue (p .depth) (clinic .seat .trial) → ClinicFits catalogue (stepAt catalogue p clinic)
     unfolding stepAt
-    step-at-fits trial-fits = go (chosenOtherwise (clinic .seat .choices) (p .feature) (p .option))
-      where
-        trying : Tried
-        trying = tried catalogue (clinic .seat .choices) (p .feature) (p .option) (p .depth) (p .next) (clinic .seat .trial)
-
-        trying-fits : TriedFits catalogue trying
-        trying-fits =
-            tried-fits catalogue fault (clinic .seat .choices) (holds .choice-below) (p .feature) (p .option)
-            (within .option-below) (p .depth) (p .next) (clinic .seat .trial) (within .depth-below) (within .next-below)
-            trial-fits
-
-        go : (otherwise : Bool) → ClinicFits catalogue
-            (cond otherwise (pairEnded (catalogue .sizes) (p .feature) (p .option) clinic)
-            (afterTried (catalogue .sizes) (p .feature) (p .option) clinic trying))
-        go true = pair-ended-fits (p .feature) (p .option) (within .feature-below) clinic holds
-        go false = after-tried-fits trying-fits
+    step-at-fits trial-fits =
+        after-tried-fits
+        (tried-fits catalogue fault (clinic .seat .choices) (holds .choice-below) (p .feature) (p .option)
+        (within .option-below) (p .depth) (p .next) (clinic .seat .trial) (within .depth-below) (within .next-below) trial-fits)
 
   pub step-fits : (clinic : Clinic) → ClinicFits catalogue clinic → ClinicFits catalogue (step catalogue clinic)
   unfolding step stepFrom
@@ -141,9 +141,11 @@ module _ (catalogue : Catalogue) (fault : faultOf catalogue ≡ 0) where
       (record {
         all-choices = full;
         all-masks = refl;
+        all-alternatives = length-map choices inForce ∙ full;
         all-bytes = length-replicate {A = ℕ} 4096 255;
         choice-below = choices-within;
         mask-below = λ (f : ℕ) (l : f < 16). rw (same-again 16 f 0) (pow-pos (sizeOf catalogue f));
+        alternatives-below = in-force-below catalogue choices choices-within;
       })
       (started (catalogue .sizes) choices 0 0)
       (started-fits choices choices-within 0 0 (fault-zero catalogue fault .some-feature) (first-has-option catalogue fault))

@@ -1,12 +1,12 @@
--- What a step does to masks and share: it leaves both as they are, or writes an example and sets a bit in the mask of the
--- pair's feature. So a clinic that shows an option goes on to show one, and a blank one stays blank until it shows one.
+-- What a step does to masks and share: it leaves both as they are, also where it finds an alternative, or writes an example
+-- and sets a bit in the mask of the pair's feature. So a clinic that shows an option goes on to show one, and a blank one stays blank until it shows one.
 use Prim.Native.Nat.{ℕ, zero, suc, _+_, _^_, _<_}
 use mathlib.Core.Path.{_≡_, refl}
 use mathlib.Core.Bool.{Bool, true, false, cond}
 use mathlib.Core.Logic.{_⊎_, inl, inr}
 use mathlib.Core.List.{List}
 use native.Mathlib.Omega.{arith}
-use lib.ListN.{length, getD, set, length-set}
+use lib.ListN.{length, getD, length-set}
 use lib.Seq.{getD-set-same, getD-set-other}
 use lib.Pow.{pow-pos}
 use lib.Dec.{eqb}
@@ -16,10 +16,10 @@ use Rattle.builds.specs.Fault.{faultOf}
 use Rattle.search.specs.declared.Place.{Place}
 use Rattle.search.specs.declared.State.{State}
 use Rattle.search.specs.declared.State.the-variants.{Closed, Ready, AtWork}
-use Rattle.search.specs.Bits.{hasBit, withBit}
-use Rattle.search.specs.Clinic.{Clinic, noneLeft, emptyShare, withExample}
-use Rattle.search.specs.Candidates.{chosenOtherwise}
+use Rattle.search.specs.Bits.{hasBit, withBit, withBitAt}
+use Rattle.search.specs.Clinic.{Clinic, noneLeft, emptyShare, withExample, withAlternative}
 use Rattle.search.specs.Step.{Tried, goOn, build, exhausted, pairEnded, afterTried, tried, stepAt, stepFrom, step, steps}
+use Rattle.search.proofs.WithBuild.{by-case}
 use Rattle.search.proofs.Bits.{no-bit-above}
 use Rattle.search.proofs.FitsInWords.{seat-fits}
 use Rattle.search.proofs.PlaceBounds.{feature-below-16, place-at-work}
@@ -27,7 +27,7 @@ use Rattle.search.proofs.ClinicFits.{ClinicFits}
 
 -- the masks with the bit of a pair set
 abbrev pub bitSet : Place → List ℕ → List ℕ
-bitSet p masks = set masks (p .feature) (withBit (getD masks (p .feature) 0) (p .option))
+bitSet p masks = withBitAt (p .feature) (p .option) masks
 
 pub data Writes (clinic after : Clinic) : Type 0 where
   nothing : after .seat .masks ≡ clinic .seat .masks → after .share ≡ clinic .share → Writes clinic after
@@ -37,23 +37,19 @@ pub data Writes (clinic after : Clinic) : Type 0 where
 module _ (catalogue : Catalogue) (clinic : Clinic) where
   module _ (p : Place) (at-work : clinic .seat .state ≡ AtWork p) where
     tried-writes : (trying : Tried) → Writes clinic (afterTried (catalogue .sizes) (p .feature) (p .option) clinic trying)
-    unfolding afterTried pairEnded withExample
+    unfolding afterTried pairEnded withExample withAlternative
     tried-writes (goOn depth next trial) = nothing refl refl
-    tried-writes (build trial) = an-example p at-work refl
+    tried-writes (build trial) =
+        by-case (clinic .seat .choices) (p .feature) (p .option) trial clinic
+        (λ (found : Clinic). Writes clinic (pairEnded (catalogue .sizes) (p .feature) (p .option) found))
+        (λ e. nothing refl refl) (λ e. an-example p at-work refl)
     tried-writes exhausted = nothing refl refl
 
     step-at-writes : Writes clinic (stepAt catalogue p clinic)
-    unfolding stepAt pairEnded
-    step-at-writes = go (chosenOtherwise (clinic .seat .choices) (p .feature) (p .option))
-      where
-        trying : Tried
-        trying = tried catalogue (clinic .seat .choices) (p .feature) (p .option) (p .depth) (p .next) (clinic .seat .trial)
-
-        go : (otherwise : Bool) → Writes clinic
-            (cond otherwise (pairEnded (catalogue .sizes) (p .feature) (p .option) clinic)
-            (afterTried (catalogue .sizes) (p .feature) (p .option) clinic trying))
-        go true = nothing refl refl
-        go false = tried-writes trying
+    unfolding stepAt
+    step-at-writes =
+        tried-writes
+        (tried catalogue (clinic .seat .choices) (p .feature) (p .option) (p .depth) (p .next) (clinic .seat .trial))
 
   pub step-writes : Writes clinic (step catalogue clinic)
   unfolding step stepFrom

@@ -2,15 +2,14 @@
 -- of any clinic alone.
 use Prim.Native.Nat.{ℕ, zero, suc, _+_}
 use mathlib.Core.Path.{_≡_, refl, _∙_}
-use mathlib.Core.Bool.{Bool, true, false, cond}
 use native.Mathlib.Nat.{zero-add, suc-add}
 use Rattle.builds.specs.Catalogue.{Catalogue}
 use Rattle.search.specs.declared.Place.{Place}
 use Rattle.search.specs.declared.State.{State}
 use Rattle.search.specs.declared.State.the-variants.{Closed, Ready, AtWork}
-use Rattle.search.specs.Clinic.{Clinic, closedClinic, withExample}
-use Rattle.search.specs.Candidates.{chosenOtherwise}
+use Rattle.search.specs.Clinic.{Clinic, closedClinic}
 use Rattle.search.specs.Step.{Tried, goOn, build, exhausted, pairEnded, afterTried, tried, stepAt, stepFrom, step, steps}
+use Rattle.search.proofs.WithBuild.{build-choices}
 
 module _ (catalogue : Catalogue) where
   pub steps-added : (m n : ℕ) (clinic : Clinic) → steps catalogue (m + n) clinic ≡ steps catalogue n (steps catalogue m clinic)
@@ -26,26 +25,18 @@ module _ (catalogue : Catalogue) where
   module _ (clinic : Clinic) where
     tried-choices : (p : Place) (trying : Tried)
         → afterTried (catalogue .sizes) (p .feature) (p .option) clinic trying .seat .choices ≡ clinic .seat .choices
-    unfolding afterTried pairEnded withExample
+    unfolding afterTried pairEnded
     tried-choices p (goOn depth next trial) = refl
-    tried-choices p (build trial) = refl
+    tried-choices p (build trial) = build-choices (clinic .seat .choices) (p .feature) (p .option) trial clinic
     tried-choices p exhausted = refl
 
     step-choices : (state : State) → stepFrom catalogue state clinic .seat .choices ≡ clinic .seat .choices
-    unfolding stepFrom stepAt pairEnded
+    unfolding stepFrom stepAt
     step-choices Closed = refl
     step-choices Ready = refl
-    step-choices (AtWork p) = go (chosenOtherwise (clinic .seat .choices) (p .feature) (p .option))
-      where
-        trying : Tried
-        trying = tried catalogue (clinic .seat .choices) (p .feature) (p .option) (p .depth) (p .next) (clinic .seat .trial)
-
-        go : (t : Bool)
-            → cond t (pairEnded (catalogue .sizes) (p .feature) (p .option) clinic)
-            (afterTried (catalogue .sizes) (p .feature) (p .option) clinic trying) .seat .choices
-            ≡ clinic .seat .choices
-        go true = refl
-        go false = tried-choices p trying
+    step-choices (AtWork p) =
+        tried-choices p
+        (tried catalogue (clinic .seat .choices) (p .feature) (p .option) (p .depth) (p .next) (clinic .seat .trial))
 
   pub steps-choices : (n : ℕ) (clinic : Clinic) → steps catalogue n clinic .seat .choices ≡ clinic .seat .choices
   unfolding steps step

@@ -10,8 +10,8 @@ use lib.ListN.{length, set, length-set}
 use Rattle.builds.specs.Catalogue.{Catalogue, rulesOf}
 use Rattle.builds.specs.Rule.{passes}
 use Rattle.search.specs.Clinic.{nothing16}
-use Rattle.search.specs.Candidates.{candidates, chosenOtherwise}
-use Rattle.search.specs.Count.{Search, nothingTried, oneStep, orLater, searchEach, searchFrom, searchFor, pairSearch}
+use Rattle.search.specs.Candidates.{candidates}
+use Rattle.search.specs.Count.{Search, nothingTried, oneStep, orLater, searchEach, searchFrom, pairSearch}
 
 -- whatever is found has so many entries
 abbrev pub FoundOf : ℕ → Option (List ℕ) → Type 0
@@ -50,10 +50,6 @@ module _ (test : ℕ → List ℕ → Bool) where
       (candidatesAt j)
 
 pub pair-found : (catalogue : Catalogue) (choices : List ℕ) (i a : ℕ) → FoundOf 16 (pairSearch catalogue choices i a .found)
-unfolding pairSearch searchFor
-pair-found catalogue choices i a = go (chosenOtherwise choices i a)
-  where
-    go : (t : Bool) → FoundOf 16 (cond t (oneStep nothingTried) (searchFor catalogue choices i a) .found)
-    go true = found-none 16
-    go false =
-        from-found (passes (rulesOf catalogue)) (candidates (catalogue .sizes) choices i a) (length (catalogue .sizes)) 0 nothing16
+unfolding pairSearch
+pair-found catalogue choices i a =
+    from-found (passes (rulesOf catalogue)) (candidates (catalogue .sizes) choices i a) (length (catalogue .sizes)) 0 nothing16

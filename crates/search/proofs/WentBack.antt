@@ -10,7 +10,7 @@ use native.Mathlib.Omega.{arith}
 use lib.ListN.{length, getD}
 use Rattle.search.specs.Candidates.{nextCandidate}
 use Rattle.search.specs.Step.{Tried, goOn, exhausted, givenUp}
-use Rattle.search.specs.FiveRules.{Least, Greater}
+use Rattle.search.specs.StepRules.{Least, Greater}
 use Rattle.search.specs.inner.Placed.{keptBefore}
 use Rattle.search.proofs.KeptBefore.{kept-before, kept-less}
 use Rattle.search.proofs.GoingBack.{goes-on, ends, goes-back}

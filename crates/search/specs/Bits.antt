@@ -1,7 +1,8 @@
 -- Masks: bit a stands for option a.
 use Prim.Native.Nat.{ℕ, _+_, _/_, _%_, _^_}
 use mathlib.Core.Bool.{Bool, cond}
-use mathlib.Core.List.{map}
+use mathlib.Core.List.{List, map}
+use lib.ListN.{getD, set}
 use lib.Dec.{eqb}
 use Rattle.builds.specs.Lists.{countFrom, sum}
 
@@ -10,6 +11,10 @@ hasBit mask a = eqb ((mask / 2 ^ a) % 2) 1
 
 unfoldable pub withBit : ℕ → ℕ → ℕ
 withBit mask a = cond (hasBit mask a) mask (mask + 2 ^ a)
+
+-- masks, one for each feature, with bit a set in that of feature i
+abbrev pub withBitAt : ℕ → ℕ → List ℕ → List ℕ
+withBitAt i a masks = set masks i (withBit (getD masks i 0) a)
 
 -- how many bits are set, of sixteen
 unfoldable pub bitsSet : ℕ → ℕ

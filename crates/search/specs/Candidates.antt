@@ -1,10 +1,10 @@
--- The candidates at feature j for the pair (i, a): a alone if j = i; else the choice in force alone; else all options,
--- rising.
+-- The candidates at feature j for the pair (i, a): a alone if j = i, so that a choice there is set aside; else the choice in
+-- force alone; else all options, rising.
 use Prim.Native.Nat.{ℕ}
 use mathlib.Core.Bool.{Bool, cond, not, _&&_}
 use mathlib.Core.List.{List, [], _∷_}
 use mathlib.Core.Option.{Option, none, some}
-use lib.ListN.{getD, set}
+use lib.ListN.{getD}
 use lib.Dec.{ltb, eqb}
 use Rattle.builds.specs.Lists.{countFrom}
 
@@ -22,10 +22,6 @@ firstAbove v (o ∷ os) = cond (ltb v o) (some o) (firstAbove v os)
 
 abbrev pub nextCandidate : List ℕ → List ℕ → ℕ → ℕ → ℕ → ℕ → Option ℕ
 nextCandidate sizes choices i a j v = firstAbove v (candidates sizes choices i a j)
-
--- the choices with feature i's own set aside: what a build with any option at i still has to keep
-abbrev pub setAside : List ℕ → ℕ → List ℕ
-setAside choices i = set choices i 255
 
 -- feature i has a choice other than a
 abbrev pub chosenOtherwise : List ℕ → ℕ → ℕ → Bool

@@ -1,12 +1,14 @@
 -- What is one clinic's own: its seat's record and its share of the board, 4,096 bytes.
-use Prim.Native.Nat.{ℕ, _+_, _*_}
-use mathlib.Core.List.{List, []}
-use lib.ListN.{getD, take, drop, set, replicate}
+use Prim.Native.Nat.{ℕ, _+_, _*_, _^_}
+use mathlib.Core.Bool.{cond}
+use mathlib.Core.List.{List, [], map}
+use lib.ListN.{take, drop, replicate}
+use lib.Dec.{eqb}
 use Rattle.builds.specs.Lists.{put}
 use Rattle.search.specs.declared.Seat.{Seat}
 use Rattle.search.specs.declared.State.{State}
 use Rattle.search.specs.declared.State.the-variants.{Closed}
-use Rattle.search.specs.Bits.{withBit}
+use Rattle.search.specs.Bits.{withBitAt}
 
 pub record Clinic : Type 0 where
   pub seat : Seat
@@ -18,7 +20,7 @@ clinicOf seat share = record { seat = seat; share = share }
 
 -- what is read past the last of some records; of no account
 abbrev pub noSeat : Seat
-noSeat = record { state = Closed; choices = []; masks = []; trial = [] }
+noSeat = record { state = Closed; choices = []; masks = []; trial = []; alternatives = [] }
 
 -- no choices, no options placed; no options left; a share that holds nothing
 abbrev pub nothing16 : List ℕ
@@ -30,13 +32,19 @@ noneLeft = replicate 16 0
 abbrev pub emptyShare : List ℕ
 emptyShare = replicate 4096 255
 
--- a record with a state and choices, and nothing else in it
-abbrev pub freshSeat : State → List ℕ → Seat
-freshSeat state choices = record { state = state; choices = choices; masks = noneLeft; trial = nothing16 }
+-- the option in force always counts as an alternative: its bit; no bit where no choice is in force
+abbrev pub inForce : ℕ → ℕ
+inForce choice = cond (eqb choice 255) 0 (2 ^ choice)
 
--- another state, masks and trial; all else as it was
-abbrev pub seatWith : State → List ℕ → List ℕ → Seat → Seat
-seatWith state masks trial seat = record { state = state; choices = seat .choices; masks = masks; trial = trial }
+-- a record with a state and choices, and nothing else in it but the options in force
+abbrev pub freshSeat : State → List ℕ → Seat
+freshSeat state choices =
+    record { state = state; choices = choices; masks = noneLeft; trial = nothing16; alternatives = map inForce choices }
+
+-- another state, masks, alternatives and trial; the choices as they were
+abbrev pub seatWith : State → List ℕ → List ℕ → List ℕ → Seat → Seat
+seatWith state masks alternatives trial seat =
+    record { state = state; choices = seat .choices; masks = masks; trial = trial; alternatives = alternatives }
 
 abbrev pub closedSeat : Seat
 closedSeat = freshSeat Closed nothing16
@@ -51,13 +59,27 @@ examplePlace i a = i * 256 + a * 16
 abbrev pub exampleIn : List ℕ → ℕ → ℕ → List ℕ
 exampleIn share i a = take 16 (drop (i * 256 + a * 16) share)
 
--- the example written, the bit set
+-- the example written, the bit of an option left set
 unfoldable pub withExample : ℕ → ℕ → List ℕ → Clinic → Clinic
 withExample i a example clinic =
-    let masks = set (clinic .seat .masks) i (withBit (getD (clinic .seat .masks) i 0) a) in
-    let seat = seatWith (clinic .seat .state) masks (clinic .seat .trial) (clinic .seat) in
-    record { seat = seat; share = put (clinic .share) (i * 256 + a * 16) example }
+    let seat = clinic .seat in
+    record {
+      seat = seatWith (seat .state) (withBitAt i a (seat .masks)) (seat .alternatives) (seat .trial) seat;
+      share = put (clinic .share) (i * 256 + a * 16) example;
+    }
+
+-- the bit of an alternative set, and nothing else written
+unfoldable pub withAlternative : ℕ → ℕ → Clinic → Clinic
+withAlternative i a clinic =
+    let seat = clinic .seat in
+    record {
+      seat = seatWith (seat .state) (seat .masks) (withBitAt i a (seat .alternatives)) (seat .trial) seat;
+      share = clinic .share;
+    }
 
 -- another state and trial
 abbrev pub moved : State → List ℕ → Clinic → Clinic
-moved state trial clinic = record { seat = seatWith state (clinic .seat .masks) trial (clinic .seat); share = clinic .share }
+moved state trial clinic = record {
+  seat = seatWith state (clinic .seat .masks) (clinic .seat .alternatives) trial (clinic .seat);
+  share = clinic .share;
+}

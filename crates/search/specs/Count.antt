@@ -1,5 +1,4 @@
--- K as a sum over the pairs of a job, one for each option tried and one for each pair that rule 1 ends: what P6 and P8
--- count. That the steps of `Step` bring a posted job to readiness in just so many is a theorem. The promises say K both ways,
+-- K as a sum over the pairs of a job, one for each option tried: what P6 and P8 count. That the steps of `Step` bring a posted job to readiness in just so many is a theorem. The promises say K both ways,
 -- by `ReadyAfter` of `Step` and as this sum.
 use Prim.Native.Nat.{ℕ, zero, suc, _+_}
 use mathlib.Core.Bool.{Bool, cond}
@@ -10,7 +9,7 @@ use Rattle.builds.specs.Lists.{countFrom, sum}
 use Rattle.builds.specs.Catalogue.{Catalogue, rulesOf}
 use Rattle.builds.specs.Rule.{passes}
 use Rattle.search.specs.Clinic.{nothing16}
-use Rattle.search.specs.Candidates.{candidates, chosenOtherwise}
+use Rattle.search.specs.Candidates.{candidates}
 
 -- how many options are tried, and the trial with a build found, if one is
 pub record Search : Type 0 where
@@ -43,13 +42,9 @@ searchFrom test candidatesAt (suc features) j trial =
     searchEach test (searchFrom test candidatesAt features (suc j)) j trial (candidatesAt j)
 
 -- the search for one pair, from the empty trial; it reads no choice at i
-unfoldable pub searchFor : Catalogue → List ℕ → ℕ → ℕ → Search
-searchFor catalogue choices i a =
-    searchFrom (passes (rulesOf catalogue)) (candidates (catalogue .sizes) choices i a) (length (catalogue .sizes)) 0 nothing16
-
--- what is done for one pair: one that rule 1 ends takes one step and finds nothing
 unfoldable pub pairSearch : Catalogue → List ℕ → ℕ → ℕ → Search
-pairSearch catalogue choices i a = cond (chosenOtherwise choices i a) (oneStep nothingTried) (searchFor catalogue choices i a)
+pairSearch catalogue choices i a =
+    searchFrom (passes (rulesOf catalogue)) (candidates (catalogue .sizes) choices i a) (length (catalogue .sizes)) 0 nothing16
 
 -- the pairs of a job: i rising, then a rising within i
 unfoldable pub pairsFrom : ℕ → List ℕ → List (ℕ × ℕ)

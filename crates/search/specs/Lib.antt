@@ -6,7 +6,7 @@ pub mod Clinic
 pub mod Candidates
 pub mod Step
 pub mod Count
-pub mod FiveRules
+pub mod StepRules
 pub mod RecordFits
 pub mod Misfit
 pub mod Trolley

@@ -1,4 +1,5 @@
--- What others look up in a seat's record: its state's kind, and a feature's choice and options left.
+-- What others look up in a seat's record: its state's kind, and a feature's choice, options left and
+-- alternatives.
 use Prim.Native.Nat.{ℕ}
 use mathlib.Core.Bool.{Bool, true, false, not}
 use lib.ListN.{getD}
@@ -23,6 +24,9 @@ hasChoice seat i = not (eqb (getD (seat .choices) i 255) 255)
 
 abbrev pub maskOf : Seat → ℕ → ℕ
 maskOf seat i = getD (seat .masks) i 0
+
+abbrev pub alternativesOf : Seat → ℕ → ℕ
+alternativesOf seat i = getD (seat .alternatives) i 0
 
 abbrev pub isLeft : Seat → ℕ → ℕ → Bool
 isLeft seat i a = hasBit (getD (seat .masks) i 0) a

@@ -19,6 +19,10 @@ pub data Misfit (catalogue : Catalogue) (seat : Seat) : Type 0 where
   -- a mask bit not below the size, or any bit for a missing feature
   mask-bit : (f a : ℕ) → f < 16 → hasBit (getD (seat .masks) f 0) a ≡ true
       → (f < length (catalogue .sizes) → sizeOf catalogue f ≤ a) → Misfit catalogue seat
+  -- an alternative's bit not below the size, or at a feature with no choice
+  alternative : (f a : ℕ) → f < 16 → hasBit (getD (seat .alternatives) f 0) a ≡ true → sizeOf catalogue f ≤ a → Misfit catalogue seat
+  alternative-unchosen : (f a : ℕ) → f < 16 → hasBit (getD (seat .alternatives) f 0) a ≡ true
+      → getD (seat .choices) f 255 ≡ 255 → Misfit catalogue seat
   -- a place at work with i or j not a feature, a not below the size of i or v not below the size of j
   feature-of-place : {p : Place} → seat .state ≡ AtWork p → length (catalogue .sizes) ≤ p .feature → Misfit catalogue seat
   depth-of-place : {p : Place} → seat .state ≡ AtWork p → length (catalogue .sizes) ≤ p .depth → Misfit catalogue seat

@@ -21,6 +21,13 @@ choiceFits sizes choices f = eqb (getD choices f 255) 255 || ltb (getD choices f
 abbrev pub maskFits : List ℕ → List ℕ → ℕ → Bool
 maskFits sizes masks f = ltb (getD masks f 0) (2 ^ getD sizes f 0)
 
+-- a mask of alternatives has no bit but for an option of its feature, and none where no choice is in force
+abbrev pub replaceable : List ℕ → List ℕ → ℕ → ℕ
+replaceable sizes choices f = cond (eqb (getD choices f 255) 255) 0 (getD sizes f 0)
+
+abbrev pub alternativesFit : List ℕ → List ℕ → List ℕ → ℕ → Bool
+alternativesFit sizes choices alternatives f = ltb (getD alternatives f 0) (2 ^ replaceable sizes choices f)
+
 -- a trial entry before the depth is an option of its feature, any other is 255
 abbrev pub entryFits : List ℕ → ℕ → List ℕ → ℕ → Bool
 entryFits sizes depth trial f = cond (ltb f depth) (ltb (getD trial f 255) (getD sizes f 0)) (eqb (getD trial f 255) 255)
@@ -45,5 +52,7 @@ stateFits catalogue seat (AtWork p) = placeFits catalogue p
 
 unfoldable pub seatFits : Catalogue → Seat → Bool
 seatFits catalogue seat = everyBelow 16 (choiceFits (catalogue .sizes) (seat .choices))
-    && everyBelow 16 (maskFits (catalogue .sizes) (seat .masks)) && stateFits catalogue seat (seat .state)
+    && everyBelow 16 (maskFits (catalogue .sizes) (seat .masks))
+    && everyBelow 16 (alternativesFit (catalogue .sizes) (seat .choices) (seat .alternatives))
+    && stateFits catalogue seat (seat .state)
     && everyBelow 16 (entryFits (catalogue .sizes) (depthOf (seat .state)) (seat .trial))

@@ -12,7 +12,7 @@ use Rattle.search.specs.declared.Place.{Place}
 use Rattle.search.specs.declared.State.{State}
 use Rattle.search.specs.declared.State.the-variants.{Closed, Ready, AtWork}
 use Rattle.search.specs.Look.{isAtWork}
-use Rattle.search.specs.Clinic.{Clinic, nothing16, emptyShare, freshSeat, withExample, moved}
+use Rattle.search.specs.Clinic.{Clinic, nothing16, emptyShare, freshSeat, withExample, withAlternative, moved}
 use Rattle.search.specs.Candidates.{firstCandidate, nextCandidate, chosenOtherwise}
 
 -- What comes of trying an option: the search goes on at a depth, with an option to be tried next there; or there is a
@@ -33,7 +33,7 @@ givenUp sizes choices i a zero v trial = goOnIf (nextCandidate sizes choices i a
 givenUp sizes choices i a (suc j) v trial = goOnIf (nextCandidate sizes choices i a (suc j) v) (suc j) trial
     (givenUp sizes choices i a j (getD trial j 255) (set trial j 255))
 
--- Rules 2 to 5: v is placed at depth j and tested.
+-- Each pair is searched: v is placed at depth j and tested.
 unfoldable pub tried : Catalogue → List ℕ → ℕ → ℕ → ℕ → ℕ → List ℕ → Tried
 tried catalogue choices i a j v trial = cond (passes (rulesOf catalogue) j (set trial j v))
     (cond (eqb (j + 1) (length (catalogue .sizes))) (build (set trial j v))
@@ -53,18 +53,20 @@ afterPair sizes choices i a = cond (ltb (a + 1) (getD sizes i 0)) (started sizes
 unfoldable pub pairEnded : List ℕ → ℕ → ℕ → Clinic → Clinic
 pairEnded sizes i a clinic = moved (afterPair sizes (clinic .seat .choices) i a) nothing16 clinic
 
+-- A build that is found is written as the example, and its option is left; at a feature chosen otherwise the option is an
+-- alternative, and neither the mask of options left nor an example is written.
+abbrev pub withBuild : List ℕ → ℕ → ℕ → List ℕ → Clinic → Clinic
+withBuild choices i a trial clinic = cond (chosenOtherwise choices i a) (withAlternative i a clinic) (withExample i a trial clinic)
+
 unfoldable pub afterTried : List ℕ → ℕ → ℕ → Clinic → Tried → Clinic
 afterTried sizes i a clinic (goOn depth next trial) =
     moved (AtWork (record { feature = i; option = a; depth = depth; next = next })) trial clinic
-afterTried sizes i a clinic (build trial) = pairEnded sizes i a (withExample i a trial clinic)
+afterTried sizes i a clinic (build trial) = pairEnded sizes i a (withBuild (clinic .seat .choices) i a trial clinic)
 afterTried sizes i a clinic exhausted = pairEnded sizes i a clinic
 
--- Rule 1, then the others.
 unfoldable pub stepAt : Catalogue → Place → Clinic → Clinic
-stepAt catalogue p clinic = cond (chosenOtherwise (clinic .seat .choices) (p .feature) (p .option))
-    (pairEnded (catalogue .sizes) (p .feature) (p .option) clinic)
-    (afterTried (catalogue .sizes) (p .feature) (p .option) clinic
-    (tried catalogue (clinic .seat .choices) (p .feature) (p .option) (p .depth) (p .next) (clinic .seat .trial)))
+stepAt catalogue p clinic = afterTried (catalogue .sizes) (p .feature) (p .option) clinic
+    (tried catalogue (clinic .seat .choices) (p .feature) (p .option) (p .depth) (p .next) (clinic .seat .trial))
 
 unfoldable pub stepFrom : Catalogue → State → Clinic → Clinic
 stepFrom catalogue Closed clinic = clinic
@@ -79,7 +81,8 @@ unfoldable pub steps : Catalogue → ℕ → Clinic → Clinic
 steps catalogue zero clinic = clinic
 steps catalogue (suc n) clinic = steps catalogue n (step catalogue clinic)
 
--- Posting a job under some choices: masks emptied, share filled with 255, pair (0, 0).
+-- Posting a job under some choices: masks emptied, but for the bits of the options in force among the alternatives, share
+-- filled with 255, pair (0, 0).
 unfoldable pub posted : List ℕ → List ℕ → Clinic
 posted sizes choices = record { seat = freshSeat (started sizes choices 0 0) choices; share = emptyShare }
 

@@ -1,4 +1,4 @@
--- The catalogues that the paper works by hand.
+-- The catalogues that the paper works by hand, and that of document 002's example.
 use Prim.Native.Nat.{ℕ}
 use mathlib.Core.List.{List, [], _∷_, _++_}
 use lib.ListN.{set}
@@ -21,6 +21,18 @@ unfoldable pub allUnequal : Catalogue
 allUnequal = record {
   sizes = 2 ∷ 2 ∷ 2 ∷ [];
   list = 2 ∷ 2 ∷ 0 ∷ 1 ∷ 0 ∷ 1 ∷ 1 ∷ 0 ∷ 2 ∷ 2 ∷ 0 ∷ 2 ∷ 0 ∷ 1 ∷ 1 ∷ 0 ∷ 2 ∷ 2 ∷ 1 ∷ 2 ∷ 0 ∷ 1 ∷ 1 ∷ 0 ∷ [];
+}
+
+-- the rows of a rule on two features of four options that differ
+unequalRows : List ℕ
+unequalRows = 0 ∷ 1 ∷ 0 ∷ 2 ∷ 0 ∷ 3 ∷ 1 ∷ 0 ∷ 1 ∷ 2 ∷ 1 ∷ 3 ∷ 2 ∷ 0 ∷ 2 ∷ 1 ∷ 2 ∷ 3 ∷ 3 ∷ 0 ∷ 3 ∷ 1 ∷ 3 ∷ 2 ∷ []
+
+-- document 002, Example 1: three features of four options, all different; the rules name the higher feature first
+unfoldable pub allDifferent : Catalogue
+unfolding unequalRows
+allDifferent = record {
+  sizes = 4 ∷ 4 ∷ 4 ∷ [];
+  list = 2 ∷ 12 ∷ 1 ∷ 0 ∷ (unequalRows ++ 2 ∷ 12 ∷ 2 ∷ 0 ∷ (unequalRows ++ 2 ∷ 12 ∷ 2 ∷ 1 ∷ unequalRows));
 }
 
 -- one feature of size 1, no rules

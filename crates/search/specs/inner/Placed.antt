@@ -1,10 +1,10 @@
--- What is placed and what is kept of it; what a build that is found adds to the masks.
+-- What is placed and what is kept of it; what a build that is found adds to some masks.
 use Prim.Native.Nat.{ℕ, _-_, _≤_, _<_}
 use mathlib.Core.Path.{_≡_}
 use mathlib.Core.Bool.{Bool, cond}
 use mathlib.Core.List.{List, _++_}
-use lib.ListN.{length, getD, take, set, replicate}
-use Rattle.search.specs.Bits.{withBit}
+use lib.ListN.{length, getD, take, replicate}
+use Rattle.search.specs.Bits.{withBitAt}
 
 -- the options placed before a depth, 255 from there on
 unfoldable pub keptBefore : ℕ → List ℕ → List ℕ
@@ -22,4 +22,4 @@ edgeBytes = replicate 16 255 ++ replicate 16 0
 
 -- the masks, with the bit of an option for which a build was found
 abbrev pub masksWith : Bool → ℕ → ℕ → List ℕ → List ℕ
-masksWith found i a masks = cond found (set masks i (withBit (getD masks i 0) a)) masks
+masksWith found i a masks = cond found (withBitAt i a masks) masks

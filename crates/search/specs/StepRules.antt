@@ -1,6 +1,7 @@
--- The written search by its five rules: what one step makes of record and share at a place (i, a, j, v), each rule beside
--- its sentence. That `step` does so wherever number 20 lets the record through is the law of proofs/FiveRules.antt; that
--- they leave nothing else open to it, that of proofs/OneOutcome.antt.
+-- The written search by its rules, 2 to 5 of the paper: what one step makes of record and share at a place (i, a, j, v), each
+-- rule beside its sentence. Every pair is searched; at a feature chosen otherwise with that one choice set aside. That `step`
+-- does so wherever number 20 lets the record through is the law of proofs/StepRules.antt; that they leave nothing else open
+-- to it, that of proofs/OneOutcome.antt.
 use Prim.Native.Nat.{ℕ, _+_, _-_, _*_, _≤_, _<_}
 use mathlib.Core.Path.{_≡_}
 use mathlib.Core.Logic.{_↔_, _⊎_}
@@ -15,8 +16,8 @@ use Rattle.search.specs.declared.State.the-variants.{Ready, AtWork}
 use Rattle.search.specs.Bits.{hasBit}
 use Rattle.search.specs.Clinic.{Clinic}
 
--- For one pair the candidates at feature j are: a alone if j = i; else the choice in force alone; else all options,
--- rising.
+-- For one pair the candidates at feature j are: a alone if j = i, whatever is chosen there; else the choice in force alone;
+-- else all options, rising.
 pub data Candidate (sizes choices : List ℕ) (i a : ℕ) : ℕ → ℕ → Type 0 where
   own : Candidate sizes choices i a i a
   chosen : {j v : ℕ} → (j ≡ i → ⊥) → getD choices j 255 ≡ v → (v ≡ 255 → ⊥) → Candidate sizes choices i a j v
@@ -48,26 +49,46 @@ pub record PairEnds (sizes : List ℕ) (i a : ℕ) (before after : Clinic) : Typ
   pub next-pair : NextPair sizes (before .seat .choices) i a (after .seat .state)
   pub nothing-placed : after .seat .trial ≡ replicate 16 255
 
--- masks and share stay
-abbrev pub NoExample : Clinic → Clinic → Type 0
-NoExample before after = (after .seat .masks ≡ before .seat .masks) × (after .share ≡ before .share)
+-- masks, share and alternatives stay
+pub record NothingWritten (before after : Clinic) : Type 0 where
+  pub masks-stay : after .seat .masks ≡ before .seat .masks
+  pub share-stays : after .share ≡ before .share
+  pub alternatives-stay : after .seat .alternatives ≡ before .seat .alternatives
+
+-- bit a is set in mask i, and no other bit of any mask changes
+abbrev pub BitSet : ℕ → ℕ → List ℕ → List ℕ → Type 0
+BitSet i a before after = (f b : ℕ) → (hasBit (getD after f 0) b ≡ true) ↔ ((hasBit (getD before f 0) b ≡ true) ⊎ ((f ≡ i) × (b ≡ a)))
 
 pub record ExampleWritten (i a : ℕ) (build : List ℕ) (before after : Clinic) : Type 0 where
-  pub bit-set : (f b : ℕ) → (hasBit (getD (after .seat .masks) f 0) b ≡ true)
-      ↔ ((hasBit (getD (before .seat .masks) f 0) b ≡ true) ⊎ ((f ≡ i) × (b ≡ a)))
+  pub bit-set : BitSet i a (before .seat .masks) (after .seat .masks)
   pub bytes-written : after .share ≡ put (before .share) (i * 256 + a * 16) build
+  pub alternatives-stay : after .seat .alternatives ≡ before .seat .alternatives
+
+pub record AlternativeSet (i a : ℕ) (before after : Clinic) : Type 0 where
+  pub bit-set : BitSet i a (before .seat .alternatives) (after .seat .alternatives)
+  pub masks-stay : after .seat .masks ≡ before .seat .masks
+  pub share-stays : after .share ≡ before .share
+
+-- What a build that is found writes. A pair at a feature chosen otherwise sets a bit among the alternatives, and gets no
+-- example.
+pub record BuildWritten (i a : ℕ) (build : List ℕ) (before after : Clinic) : Type 0 where
+  pub chosen-otherwise : (getD (before .seat .choices) i 255 ≡ 255 → ⊥) → (getD (before .seat .choices) i 255 ≡ a → ⊥)
+      → AlternativeSet i a before after
+  pub otherwise : ((getD (before .seat .choices) i 255 ≡ 255) ⊎ (getD (before .seat .choices) i 255 ≡ a))
+      → ExampleWritten i a build before after
 
 -- the pair goes on at depth j, with v next there: the options placed before j are kept, 255 stands from there on
 pub record GoesOn (i a j v : ℕ) (placed : List ℕ) (before after : Clinic) : Type 0 where
   pub at-place : after .seat .state ≡ AtWork (record { feature = i; option = a; depth = j; next = v })
   pub kept-before : after .seat .trial ≡ take j placed ++ replicate (16 - j) 255
-  pub no-example : NoExample before after
+  pub nothing-written : NothingWritten before after
 
 -- Rules 3 to 5, where an option was placed at j.
 pub record Tries (catalogue : Catalogue) (i a j : ℕ) (choices placed : List ℕ) (before after : Clinic) : Type 0 where
-  -- 3. Passed and j is the last feature: the build is written as the example, bit a is set in mask i, the pair ends.
+  -- 3. Passed and j is the last feature: the build is written as the example, bit a is set in mask i (chosen otherwise, a bit
+  -- of the alternatives alone), the pair ends.
   pub build-found : Passed catalogue j placed → j + 1 ≡ length (catalogue .sizes)
-      → PairEnds (catalogue .sizes) i a before after × ExampleWritten i a placed before after
+      → PairEnds (catalogue .sizes) i a before after × BuildWritten i a placed before after
   -- 4. Passed otherwise: depth j+1, its first candidate next.
   pub one-deeper : Passed catalogue j placed → j + 1 < length (catalogue .sizes)
       → (w : ℕ) × Least (Candidate (catalogue .sizes) choices i a (j + 1)) w × GoesOn i a (j + 1) w placed before after
@@ -77,14 +98,10 @@ pub record Tries (catalogue : Catalogue) (i a j : ℕ) (choices placed : List �
       → ((e u : ℕ) → d < e → e ≤ j → Greater (catalogue .sizes) choices i a placed e u → ⊥) → GoesOn i a d w placed before after
   -- If none has, the pair ends without an example.
   pub none-greater : (Passed catalogue j placed → ⊥) → ((e u : ℕ) → e ≤ j → Greater (catalogue .sizes) choices i a placed e u → ⊥)
-      → PairEnds (catalogue .sizes) i a before after × NoExample before after
+      → PairEnds (catalogue .sizes) i a before after × NothingWritten before after
 
-pub record FiveRules (catalogue : Catalogue) (i a j v : ℕ) (before after : Clinic) : Type 0 where
-  -- 1. If feature i has a choice other than a, the pair ends without an example. Nothing is tried.
-  pub chosen-otherwise : (getD (before .seat .choices) i 255 ≡ 255 → ⊥) → (getD (before .seat .choices) i 255 ≡ a → ⊥)
-      → PairEnds (catalogue .sizes) i a before after × NoExample before after
-  -- 2. Otherwise v is placed at j and tested against each rule whose highest-numbered feature is j.
-  pub otherwise : ((getD (before .seat .choices) i 255 ≡ 255) ⊎ (getD (before .seat .choices) i 255 ≡ a))
-      → Tries catalogue i a j (before .seat .choices) (set (before .seat .trial) j v) before after
+pub record StepRules (catalogue : Catalogue) (i a j v : ℕ) (before after : Clinic) : Type 0 where
+  -- 2. v is placed at j and tested against each rule whose highest-numbered feature is j.
+  pub tries : Tries catalogue i a j (before .seat .choices) (set (before .seat .trial) j v) before after
   -- Under each of them the choices stay.
   pub choices-stay : after .seat .choices ≡ before .seat .choices
