@@ -1,18 +1,23 @@
 -- What the paper promises in a run holds. A ready seat stands at the end of its job, under choices that some build keeps, if
 -- there is any choice: so a feature that has one shows it alone, and if the catalogue has a build every feature shows an
 -- option. Without a build a clinic never shows an option, for it would go on to show one up to the end of its job, where
--- none is left; and a clinic that never showed one is blank.
+-- none is left; and a clinic that never showed one is blank. It then has no choice either, and where there is none a record
+-- that fits has no alternatives.
 use Prim.Native.Nat.{ℕ, _<_}
 use mathlib.Core.Path.{_≡_, refl, sym, ap, _∙_, subst}
 use mathlib.Core.Logic.{_↔_, _⊎_, inl, inr}
-use mathlib.Core.Bool.{true}
+use mathlib.Core.Bool.{Bool, true, false}
 use mathlib.Core.List.{List}
 use native.Mathlib.Omega.{arith}
-use lib.ListN.{length, getD}
+use lib.ListN.{length, getD, List·getD-eq-default}
+use lib.Seq.{ext-getD}
+use lib.Dec.{ltb}
+use borrow.Author.Tests.{ltb-true, ltb-false, eq-eqb}
 use Rattle.builds.specs.Rule.{optionAt}
 use Rattle.builds.specs.Catalogue.{Catalogue}
 use Rattle.builds.specs.Fault.{faultOf}
 use Rattle.builds.specs.Build.{IsBuild}
+use Rattle.builds.proofs.Alternatives.{under}
 use Rattle.builds.proofs.Padded.{nothing-there}
 use Rattle.search.specs.Bits.{hasBit}
 use Rattle.search.specs.Clinic.{Clinic, nothing16, noneLeft}
@@ -20,6 +25,9 @@ use Rattle.search.specs.Step.{steps, posted}
 use Rattle.search.specs.Count.{jobSteps}
 use Rattle.search.proofs.SearchPremises.{ChoicesFit}
 use Rattle.search.proofs.PairSteps.{same-again}
+use Rattle.search.proofs.FitsInWords.{seat-fits}
+use Rattle.search.proofs.ClinicFits.{ClinicFits}
+use Rattle.search.proofs.StepsAdded.{steps-choices}
 use Rattle.search.proofs.StepWrites.{Blank, Shows, shows-on, blank-or-shows}
 use Rattle.search.proofs.ReadyJob as ready-job
 use Rattle.runs.specs.Room.{clinicAt}
@@ -29,7 +37,7 @@ use Rattle.promises.specs.InARun.{InARun}
 use Rattle.promises.proofs.SoundMoments.{opened-faultless, sound-moment}
 use Rattle.promises.proofs.AtEveryMoment.{Invariant, at-every-moment}
 use Rattle.promises.proofs.OptionsLeft.{mask-answered}
-use Rattle.promises.proofs.KeptChoices.{Kept, no-choice, by-build, under-others, kept-fit}
+use Rattle.promises.proofs.KeptChoices.{Kept, no-choice, by-build, kept-fit}
 use Rattle.promises.proofs.Reached.{
   Reached,
   blank,
@@ -45,7 +53,8 @@ abbrev BlankOrShows : Clinic → Type 0
 BlankOrShows clinic = Blank clinic ⊎ Shows clinic
 
 module _ (catalogue : Catalogue) (fault : faultOf catalogue ≡ 0) where
-  module _ (clinic : Clinic) (end : Ended catalogue clinic) (i : ℕ) (feature : i < length (catalogue .sizes)) where
+  module _ (clinic : Clinic) (sixteen : length (clinic .seat .choices) ≡ 16) (end : Ended catalogue clinic) (i : ℕ)
+      (feature : i < length (catalogue .sizes)) where
     abbrev choices : List ℕ
     choices = clinic .seat .choices
 
@@ -60,7 +69,7 @@ module _ (catalogue : Catalogue) (fault : faultOf catalogue ≡ 0) where
         go (no-choice free) = absurd (chosen (sym e ∙ free i))
         go (by-build build b) =
             rw (mask-at-end catalogue clinic end i, ← e)
-            (ready-job.choice-alone catalogue fault choices fit i feature
+            (ready-job.choice-alone catalogue fault choices sixteen fit i feature
             (λ (none : getD choices i 255 ≡ 255). chosen (sym e ∙ none)) build b a)
 
     some-shown : (build : List ℕ) → IsBuild catalogue nothing16 build
@@ -70,11 +79,11 @@ module _ (catalogue : Catalogue) (fault : faultOf catalogue ≡ 0) where
         left : (kept : List ℕ) → IsBuild catalogue choices kept → (a : ℕ) × (hasBit (getD (clinic .seat .masks) i 0) a ≡ true)
         left kept k = (
           optionAt kept i,
-          rw (mask-at-end catalogue clinic end i) (ready-job.build-left catalogue fault choices fit kept k i feature),
+          rw (mask-at-end catalogue clinic end i) (ready-job.build-left catalogue fault choices sixteen fit kept k i feature),
         )
 
         go : Kept catalogue choices → (a : ℕ) × (hasBit (getD (clinic .seat .masks) i 0) a ≡ true)
-        go (no-choice free) = left build (under-others catalogue b choices (λ f l chosen. absurd (chosen (free f))))
+        go (no-choice free) = left build (under b (λ f l chosen. absurd (chosen (free f))))
         go (by-build kept k) = left kept k
 
   -- at every moment a clinic is blank or shows an option
@@ -92,20 +101,47 @@ module _ (catalogue : Catalogue) (fault : faultOf catalogue ≡ 0) where
       omega (arith, shows .some-bit)
 
   module _ (no-build : (build : List ℕ) → IsBuild catalogue nothing16 build → ⊥) where
-    never-shows : (clinic : Clinic) → Reached catalogue clinic → Shows clinic → ⊥
-    never-shows clinic (blank e) shows = none-shown clinic (ap (λ (x : Clinic). x .seat .masks) e) shows
-    never-shows clinic (searching choices kept n e) shows =
+    none-keeps : (choices build : List ℕ) → IsBuild catalogue choices build → ⊥
+    none-keeps choices build b = no-build build (under b (λ f l chosen. absurd (chosen (nothing-there 16 f))))
+
+    never-shows : (clinic : Clinic) → length (clinic .seat .choices) ≡ 16 → Reached catalogue clinic → Shows clinic → ⊥
+    unfolding posted
+    never-shows clinic sixteen (blank e) shows = none-shown clinic (ap (λ (x : Clinic). x .seat .masks) e) shows
+    never-shows clinic sixteen (searching choices kept n e) shows =
+        let same : clinic .seat .choices ≡ choices =
+        ap (λ (x : Clinic). x .seat .choices) e ∙ steps-choices catalogue n (posted (catalogue .sizes) choices) in
         none-shown (ready-job.ended catalogue choices)
-        (ready-job.none-left catalogue fault choices (kept-fit catalogue kept) none-keeps .0)
+        (ready-job.none-left catalogue fault choices (ap length (sym same) ∙ sixteen) (kept-fit catalogue kept) (none-keeps choices) .0)
         (subst Shows (ap (steps catalogue (jobSteps catalogue choices)) e ∙ job-after catalogue fault choices n)
         (shows-on catalogue (jobSteps catalogue choices) clinic shows))
-      where
-        none-keeps : (build : List ℕ) → IsBuild catalogue choices build → ⊥
-        none-keeps build b = no-build build (under-others catalogue b nothing16 (λ f l chosen. absurd (chosen (nothing-there 16 f))))
 
-    always-blank : (clinic : Clinic) → Reached catalogue clinic → BlankOrShows clinic → Blank clinic
-    always-blank clinic reached (inl is-blank) = is-blank
-    always-blank clinic reached (inr shows) = absurd (never-shows clinic reached shows)
+    always-blank : (clinic : Clinic) → length (clinic .seat .choices) ≡ 16 → Reached catalogue clinic → BlankOrShows clinic → Blank clinic
+    always-blank clinic sixteen reached (inl is-blank) = is-blank
+    always-blank clinic sixteen reached (inr shows) = absurd (never-shows clinic sixteen reached shows)
+
+    -- without a build nothing is ever chosen
+    never-chosen : (clinic : Clinic) → Reached catalogue clinic → (f : ℕ) → getD (clinic .seat .choices) f 255 ≡ 255
+    unfolding posted
+    never-chosen clinic (blank e) f = rw (ap (λ (x : Clinic). x .seat .choices) e) (nothing-there 16 f)
+    never-chosen clinic (searching choices (no-choice free) n e) f =
+        rw (ap (λ (x : Clinic). x .seat .choices) e, steps-choices catalogue n (posted (catalogue .sizes) choices)) (free f)
+    never-chosen clinic (searching choices (by-build build b) n e) f = absurd (none-keeps choices build b)
+
+-- where no choice is in force a record that fits has no alternatives
+module _ (catalogue : Catalogue) (clinic : Clinic) (fits : ClinicFits catalogue clinic) where
+  none-replaced : (i : ℕ) → getD (clinic .seat .choices) i 255 ≡ 255 → getD (clinic .seat .alternatives) i 0 ≡ 0
+  none-replaced i none = go (ltb i 16) refl
+    where
+      go : (t : Bool) → ltb i 16 ≡ t → getD (clinic .seat .alternatives) i 0 ≡ 0
+      go true l =
+          let below = seat-fits catalogue (clinic .seat) (fits .fits) .alternatives-below i (ltb-true i 16 l) in
+          omega (arith, rw (eq-eqb (getD (clinic .seat .choices) i 255) 255 none) at below)
+      go false l = List·getD-eq-default (clinic .seat .alternatives) 0 (omega (arith, fits .all-alternatives, ltb-false i 16 l))
+
+  all-none : ((i : ℕ) → getD (clinic .seat .choices) i 255 ≡ 255) → clinic .seat .alternatives ≡ noneLeft
+  all-none none =
+      ext-getD 0 (clinic .seat .alternatives) noneLeft (fits .all-alternatives)
+      (λ (i : ℕ) l. none-replaced i (none i) ∙ sym (same-again 16 i 0))
 
 pub every-run : (catalogue : Catalogue) (board : List ℕ) → Opened catalogue board → (calls : List Call) (c : ℕ) → c < 8
     → InARun catalogue (moment catalogue board calls) c
@@ -113,13 +149,17 @@ every-run catalogue board opened calls c seat-below =
     let clinic : Clinic = clinicAt (moment catalogue board calls) c in
     let fault : faultOf catalogue ≡ 0 = opened-faultless catalogue board opened in
     let at-end = ended-at catalogue board opened calls c seat-below in
+    let fits = sound-moment catalogue board opened calls .clinics-fit c seat-below in
+    let reached = reached-at catalogue board opened calls c seat-below in
     let shown = mask-answered catalogue fault (moment catalogue board calls) (sound-moment catalogue board opened calls) c seat-below in
     record {
       choice-alone = λ ready i x feature.
-          rw (shown ready i feature) (chosen-alone catalogue fault clinic (at-end ready) i feature x);
+          rw (shown ready i feature) (chosen-alone catalogue fault clinic (fits .all-choices) (at-end ready) i feature x);
       some-left = λ build b ready i feature.
-          rw (shown ready i feature) (some-shown catalogue fault clinic (at-end ready) i feature build b);
+          rw (shown ready i feature) (some-shown catalogue fault clinic (fits .all-choices) (at-end ready) i feature build b);
       none-left = λ no-build.
-          always-blank catalogue fault no-build clinic (reached-at catalogue board opened calls c seat-below)
-          (at-every-moment catalogue board opened BlankOrShows (blank-or-shows-lasts catalogue fault) calls c seat-below);
+          let nothing = always-blank catalogue fault no-build clinic (fits .all-choices) reached
+          (at-every-moment catalogue board opened BlankOrShows (blank-or-shows-lasts catalogue fault) calls c seat-below) in
+          (nothing .0, nothing .1, all-none catalogue clinic fits (never-chosen catalogue fault no-build clinic reached));
+      none-replaced = none-replaced catalogue clinic fits;
     }

@@ -12,6 +12,7 @@ use borrow.Author.Tests.{eqb-true, eqb-false}
 use Rattle.builds.specs.Rule.{optionAt}
 use Rattle.builds.specs.Catalogue.{Catalogue}
 use Rattle.builds.specs.Build.{IsBuild}
+use Rattle.builds.proofs.Alternatives.{under}
 use Rattle.search.proofs.SearchPremises.{ChoicesFit}
 
 pub data Kept (catalogue : Catalogue) (choices : List ℕ) : Type 0 where
@@ -19,13 +20,6 @@ pub data Kept (catalogue : Catalogue) (choices : List ℕ) : Type 0 where
   by-build : (build : List ℕ) → IsBuild catalogue choices build → Kept catalogue choices
 
 module _ (catalogue : Catalogue) where
-  -- a build keeps other choices too if its options are those that they name
-  pub under-others : {choices build : List ℕ} → IsBuild catalogue choices build → (others : List ℕ)
-      → ((f : ℕ) → f < length (catalogue .sizes) → (getD others f 255 ≡ 255 → ⊥) → optionAt build f ≡ getD others f 255)
-      → IsBuild catalogue others build
-  under-others b others keeps =
-      record { complete = b .complete; within = b .within; every-rule = b .every-rule; every-choice = keeps }
-
   pub kept-fit : {choices : List ℕ} → Kept catalogue choices → ChoicesFit catalogue choices
   kept-fit (no-choice free) f l = inl (free f)
   kept-fit {choices} (by-build build b) f l = go (eqb (getD choices f 255) 255) refl
@@ -39,7 +33,7 @@ module _ (catalogue : Catalogue) where
     -- one choice set to a build's own option, or dropped
     pub build-set : (build : List ℕ) → IsBuild catalogue choices build → (x : ℕ) → ((x ≡ 255 → ⊥) → optionAt build i ≡ x)
         → IsBuild catalogue (set choices i x) build
-    build-set build b x own = under-others b (set choices i x) each
+    build-set build b x own = under b each
       where
         each : (f : ℕ) → f < length (catalogue .sizes) → (getD (set choices i x) f 255 ≡ 255 → ⊥)
             → optionAt build f ≡ getD (set choices i x) f 255

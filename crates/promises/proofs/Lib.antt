@@ -22,5 +22,6 @@ pub mod Openings
 pub mod Possible
 pub mod InARun
 pub mod Throughout
+pub mod Replacing
 pub mod Turns
 pub mod Words

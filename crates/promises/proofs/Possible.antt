@@ -18,7 +18,7 @@ use Rattle.search.specs.declared.State.the-variants.{Closed, Ready, AtWork}
 use Rattle.search.specs.Look.{isClosed, isLeft}
 use Rattle.runs.specs.declared.Asking.{Asking}
 use Rattle.runs.specs.declared.Asking.the-variants.{Enter, Leave, Choose, Relax, Read}
-use Rattle.runs.specs.declared.Reading.the-variants.{Options, Example}
+use Rattle.runs.specs.declared.Reading.the-variants.{Options, Alternatives, Example}
 use Rattle.runs.specs.Room.{Room, seatAt}
 use Rattle.runs.specs.Call.{Call, asks, turns}
 use Rattle.runs.specs.RefusalTable.{askedRows}
@@ -77,6 +77,7 @@ module _ (catalogue : Catalogue) (fault : faultOf catalogue ≡ 0) (room : Room)
       unfolding member
       when-ready = record {
         options = rows-pass (Read (Options i)) (rw (ready, in-catalogue) refl);
+        alternatives = λ chosen. rows-pass (Read (Alternatives i)) (rw (ready, in-catalogue, ne-eqb (getD choices i 255) 255 chosen) refl);
         example = λ a gic. rows-pass (Read (Example i a)) (rw (ready, in-catalogue, option a gic, left a gic) refl);
         choose = λ a unchosen gic. rows-pass (Choose i a) (rw (ready, in-catalogue, option a gic, unchosen, left a gic) refl);
         relax = λ chosen. rows-pass (Relax i) (rw (ready, in-catalogue, ne-eqb (getD choices i 255) 255 chosen) refl);

@@ -24,7 +24,7 @@ use Rattle.search.proofs.ClinicFits.{ClinicFits}
 use Rattle.search.proofs.StepsAdded.{steps-added, closed-stays}
 use Rattle.search.proofs.JobSteps.{job-steps, job-choices}
 use Rattle.search.proofs.ReadyOnce.{ready-stays, is-ready}
-use Rattle.search.proofs.ReadyJob.{ended, maskAt, job-ready-after, left-exactly}
+use Rattle.search.proofs.ReadyJob.{ended, maskAt, alternativesAt, job-ready-after, left-exactly}
 use Rattle.runs.specs.declared.Asking.{Asking}
 use Rattle.runs.specs.declared.Asking.the-variants.{Enter, Leave, Choose, Relax, Read}
 use Rattle.runs.specs.Room.{clinicAt}
@@ -50,6 +50,10 @@ pub record Ended (catalogue : Catalogue) (clinic : Clinic) : Type 0 where
 pub mask-at-end : (catalogue : Catalogue) (clinic : Clinic) → Ended catalogue clinic → (i : ℕ)
     → getD (clinic .seat .masks) i 0 ≡ maskAt catalogue (clinic .seat .choices) i
 mask-at-end catalogue clinic end i = ap (λ (x : Clinic). getD (x .seat .masks) i 0) (end .is-ended)
+
+pub alternatives-at-end : (catalogue : Catalogue) (clinic : Clinic) → Ended catalogue clinic → (i : ℕ)
+    → getD (clinic .seat .alternatives) i 0 ≡ alternativesAt catalogue (clinic .seat .choices) i
+alternatives-at-end catalogue clinic end i = ap (λ (x : Clinic). getD (x .seat .alternatives) i 0) (end .is-ended)
 
 module _ (catalogue : Catalogue) (fault : faultOf catalogue ≡ 0) where
   abbrev start : List ℕ → Clinic
@@ -98,7 +102,7 @@ module _ (catalogue : Catalogue) (fault : faultOf catalogue ≡ 0) where
     chosen-kept end i a l left =
         let choices : List ℕ = clinic .seat .choices in
         let left-at-end : hasBit (maskAt catalogue choices i) a ≡ true = rw (mask-at-end catalogue clinic end i) at left in
-        let some-build = left-exactly catalogue fault choices (kept-fit catalogue (end .choices-kept)) i a l .0 left-at-end in
+        let some-build = left-exactly catalogue fault choices (fits .all-choices) (kept-fit catalogue (end .choices-kept)) i a l .0 left-at-end in
         by-build (some-build .0)
         (build-set catalogue choices i (has-place i l) (some-build .0) (some-build .1 .is-build) a (λ chosen. some-build .1 .contains))
 

@@ -36,7 +36,7 @@ module _ (catalogue : Catalogue) (room : Room) (fits : DeskMisfit catalogue (roo
   not-20 (Sentence.no-such-option named l) e = omega (arith, e)
   not-20 (Sentence.has-a-choice s) e = omega (arith, e)
   not-20 (Sentence.not-left named s) e = omega (arith, e)
-  not-20 (Sentence.no-choice s) e = omega (arith, e)
+  not-20 (Sentence.no-choice named s) e = omega (arith, e)
 
   none-20 : {call : Call} {r : ℕ} → FirstOf (Sentence catalogue room call) r → r ≡ 20 → ⊥
   none-20 (FirstOf.no-sentence none) e = omega (arith, e)

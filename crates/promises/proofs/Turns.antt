@@ -12,7 +12,7 @@ use borrow.Author.Tests.{ltb-true, ltb-false}
 use Rattle.builds.specs.Catalogue.{Catalogue}
 use Rattle.builds.specs.Fault.{faultOf}
 use Rattle.search.specs.Look.{isAtWork}
-use Rattle.search.proofs.FiveRules.{five-rules}
+use Rattle.search.proofs.StepRules.{step-rules}
 use Rattle.runs.specs.Room.{Room, clinicAt}
 use Rattle.runs.specs.Call.{turns}
 use Rattle.runs.specs.Turn.{served, turn, afterTurns, turnsMade}
@@ -134,6 +134,6 @@ every-turns catalogue room whole passes =
         turns-added catalogue room (whole .eight) (whole .board-length) (sixteen room whole) u v,
         more-turns catalogue room whole passes u v,
       );
-      each-step = λ c l. five-rules catalogue (clinicAt room c) (fault catalogue room whole passes) (sound catalogue room whole passes .clinics-fit c l);
+      each-step = λ c l. step-rules catalogue (clinicAt room c) (fault catalogue room whole passes) (sound catalogue room whole passes .clinics-fit c l);
       answered = answered catalogue room whole passes;
     }

@@ -19,6 +19,7 @@ module _ (room : Room) (whole : Whole room) where
     all-choices = whole .sixteen c l .0;
     all-masks = whole .sixteen c l .1;
     all-entries = whole .sixteen c l .2;
+    all-alternatives = whole .sixteen c l .3;
   }
 
   pub whole-sound : (catalogue : Catalogue) → deskFits catalogue (room .desk) ≡ true → Sound catalogue room
@@ -36,6 +37,6 @@ sound-whole sound = record {
   eight = sound .eight;
   sixteen = λ (c : ℕ) (l : c < 8).
       let fits = sound .clinics-fit c l in
-      (fits .all-choices, fits .all-masks, fits .all-entries);
+      (fits .all-choices, fits .all-masks, fits .all-entries, fits .all-alternatives);
   board-length = sound .board-length;
 }

@@ -1,5 +1,6 @@
 -- The small words (`Words` of the builds, the search and the runs).
 use Rattle.builds.proofs.Words.{satisfied, written, one-to, counting, adding, writing}
+use Rattle.builds.proofs.Alternatives.{alternative-iff}
 use Rattle.search.proofs.Words.{bit, working}
 use Rattle.runs.proofs.Words.{own, clinic, seated, own-calls, asked}
 use Rattle.promises.specs.Words.{Words}
@@ -7,6 +8,7 @@ use Rattle.promises.specs.Words.{Words}
 pub words : Words
 words = record {
   satisfied = satisfied;
+  alternative = alternative-iff;
   written = written;
   own = own;
   clinic = clinic;

@@ -1,10 +1,11 @@
 -- What a seat's askings leave of its clinic, on any desk and board. "Choose: sets one choice. Relax: drops one choice. All
--- three empty the masks, fill the share with 255 and post a job at pair (0, 0)"; the seat that enters has no choice. "Leave:
--- an open seat, ready or at work, becomes closed." Options and example answer what stands in record and share, and change
--- nothing.
+-- three empty the masks, fill the share with 255 and post a job at pair (0, 0)"; the seat that enters has no choice. Of the
+-- alternatives "the option in force always counts; its bit is set at posting". "Leave: an open seat, ready or at work, becomes
+-- closed." Options, alternatives and example answer what stands in record and share, and change nothing.
 use Prim.Native.Nat.{ℕ, _+_, _*_, _<_}
 use mathlib.Core.Path.{_≡_}
-use mathlib.Core.Bool.{false, cond}
+use mathlib.Core.Logic.{_↔_}
+use mathlib.Core.Bool.{true, false, cond}
 use mathlib.Core.List.{List, [], map}
 use lib.ListN.{getD, take, drop, set, replicate}
 use Rattle.builds.specs.Lists.{countFrom, sum}
@@ -16,20 +17,23 @@ use Rattle.search.specs.Clinic.{Clinic}
 use Rattle.runs.specs.declared.Asking.{Asking}
 use Rattle.runs.specs.declared.Asking.the-variants.{Enter, Leave, Choose, Relax, Read}
 use Rattle.runs.specs.declared.Reading.{Reading}
-use Rattle.runs.specs.declared.Reading.the-variants.{Options, Example}
+use Rattle.runs.specs.declared.Reading.the-variants.{Options, Alternatives, Example}
 use Rattle.runs.specs.Room.{Room, clinicAt}
-use Rattle.runs.specs.Call.{asks}
+use Rattle.runs.specs.Call.{Answer, asks}
 use Rattle.runs.specs.Perform.{perform}
 use Rattle.promises.specs.Moment.{IsDone, seatIn}
 use Rattle.promises.specs.Whole.{Whole}
 
--- nothing but a state and choices: masks empty, nothing placed, a share full of 255
+-- nothing but a state and choices: masks empty, nothing placed, a share full of 255, and of the alternatives the options in
+-- force alone
 pub record Fresh (state : State) (choices : List ℕ) (clinic : Clinic) : Type 0 where
   pub state-is : clinic .seat .state ≡ state
   pub choices-are : clinic .seat .choices ≡ choices
   pub masks-empty : clinic .seat .masks ≡ replicate 16 0
   pub nothing-placed : clinic .seat .trial ≡ replicate 16 255
   pub share-filled : clinic .share ≡ replicate 4096 255
+  pub in-force-alone : (f a : ℕ)
+      → (hasBit (getD (clinic .seat .alternatives) f 0) a ≡ true) ↔ ((getD choices f 255 ≡ a) × (a ≡ 255 → ⊥))
 
 -- a closed seat has no choices, empty masks and a share full of 255
 abbrev pub Blank : Clinic → Type 0
@@ -44,16 +48,22 @@ abbrev pub Leaves : Catalogue → Asking → Room → ℕ → (Clinic → Type 0
 Leaves catalogue asking room c So = IsDone catalogue room (asks c asking)
     → So (clinicAt (perform catalogue (asks c asking) room .room) c)
 
+-- a mask is answered, and how many bits are set in it
+abbrev pub AnswersMask : ℕ → Answer → Type 0
+AnswersMask mask answer = let count = sum (map (λ (a : ℕ). cond (hasBit mask a) 1 0) (countFrom 0 16)) in
+    answer ≡ record { number = 0; mask = mask; count = count; bytes = []; made = 0; working = false }
+
 pub record Askings (catalogue : Catalogue) (room : Room) (c : ℕ) : Type 0 where
   pub entered : Leaves catalogue Enter room c (Posted (replicate 16 255))
   pub chosen : (i a : ℕ) → Leaves catalogue (Choose i a) room c (Posted (set (seatIn room c .choices) i a))
   pub relaxed : (i : ℕ) → Leaves catalogue (Relax i) room c (Posted (set (seatIn room c .choices) i 255))
   pub closed : Leaves catalogue Leave room c Blank
-  -- options left: the mask of one feature and how many bits are set in it; example: the sixteen bytes as they stand
-  pub options : (i : ℕ) → IsDone catalogue room (asks c (Read (Options i))) → let mask = getD (seatIn room c .masks) i 0 in
-      let count = sum (map (λ (a : ℕ). cond (hasBit mask a) 1 0) (countFrom 0 16)) in
-      perform catalogue (asks c (Read (Options i))) room .answer
-      ≡ record { number = 0; mask = mask; count = count; bytes = []; made = 0; working = false }
+  -- options left, alternatives: the mask of one feature and how many bits are set in it; example: the sixteen bytes as they
+  -- stand
+  pub options : (i : ℕ) → IsDone catalogue room (asks c (Read (Options i)))
+      → AnswersMask (getD (seatIn room c .masks) i 0) (perform catalogue (asks c (Read (Options i))) room .answer)
+  pub alternatives : (i : ℕ) → IsDone catalogue room (asks c (Read (Alternatives i)))
+      → AnswersMask (getD (seatIn room c .alternatives) i 0) (perform catalogue (asks c (Read (Alternatives i))) room .answer)
   pub example : (i a : ℕ) → IsDone catalogue room (asks c (Read (Example i a)))
       → let bytes = take 16 (drop (c * 4096 + i * 256 + a * 16) (room .board)) in
       perform catalogue (asks c (Read (Example i a))) room .answer

@@ -7,6 +7,7 @@ pub mod Askings
 pub mod Turns
 pub mod OptionsLeft
 pub mod Jobs
+pub mod Replacing
 pub mod TwoRuns
 pub mod Possible
 pub mod InARun

@@ -20,7 +20,13 @@ pub record Openings (catalogue : Catalogue) (board : List ℕ) : Type 0 where
   pub by-the-paper : (r : ℕ) → (opening catalogue board .answer .number ≡ r) ↔ FirstOf (OpenSentence catalogue board) r
   -- a refused open hands back such a desk, too, and the board as it came
   pub all-closed : opening catalogue board .room .desk ≡ record {
-    seats = replicate 8 (record { state = Closed; choices = replicate 16 255; masks = replicate 16 0; trial = replicate 16 255 });
+    seats = replicate 8 (record {
+      state = Closed;
+      choices = replicate 16 255;
+      masks = replicate 16 0;
+      trial = replicate 16 255;
+      alternatives = replicate 16 0;
+    });
     next = 0;
   }
   pub board-filled : Opened catalogue board → opening catalogue board .room .board ≡ replicate 32768 255

@@ -7,13 +7,14 @@ use Rattle.builds.specs.Catalogue.{Catalogue}
 use Rattle.builds.specs.Gic.{Gic}
 use Rattle.search.specs.declared.State.the-variants.{Closed, Ready}
 use Rattle.runs.specs.declared.Asking.the-variants.{Enter, Leave, Choose, Relax, Read}
-use Rattle.runs.specs.declared.Reading.the-variants.{Options, Example}
+use Rattle.runs.specs.declared.Reading.the-variants.{Options, Alternatives, Example}
 use Rattle.runs.specs.Room.{Room}
 use Rattle.runs.specs.Call.{asks, turns}
 use Rattle.promises.specs.Moment.{IsDone, seatIn}
 
 pub record WhenReady (catalogue : Catalogue) (room : Room) (c i : ℕ) : Type 0 where
   pub options : IsDone catalogue room (asks c (Read (Options i)))
+  pub alternatives : (getD (seatIn room c .choices) i 255 ≡ 255 → ⊥) → IsDone catalogue room (asks c (Read (Alternatives i)))
   pub example : (a : ℕ) → Gic catalogue (seatIn room c .choices) i a → IsDone catalogue room (asks c (Read (Example i a)))
   pub choose : (a : ℕ) → getD (seatIn room c .choices) i 255 ≡ 255 → Gic catalogue (seatIn room c .choices) i a
       → IsDone catalogue room (asks c (Choose i a))

@@ -11,7 +11,7 @@ use Rattle.builds.specs.Lists.{countFrom, sum}
 use Rattle.search.specs.declared.Place.{Place}
 use Rattle.search.specs.declared.State.the-variants.{AtWork}
 use Rattle.search.specs.Look.{isAtWork}
-use Rattle.search.specs.FiveRules.{FiveRules}
+use Rattle.search.specs.StepRules.{StepRules}
 use Rattle.search.specs.Step.{step}
 use Rattle.runs.specs.Room.{Room, clinicAt}
 use Rattle.runs.specs.Call.{turns}
@@ -50,9 +50,9 @@ pub record Turns (catalogue : Catalogue) (room : Room) : Type 0 where
   pub more-turns : (u v : ℕ) → let before = perform catalogue (turns u) room in
       let more = perform catalogue (turns v) (before .room) in let all = perform catalogue (turns (u + v)) room in
       (all .room ≡ more .room) × (all .answer .made ≡ before .answer .made + more .answer .made)
-  -- the step that a seat at work makes when it is served is by the five rules
+  -- the step that a seat at work makes when it is served is by the rules of a step
   pub each-step : (c : ℕ) → c < 8 → (p : Place) → seatIn room c .state ≡ AtWork p
-      → FiveRules catalogue (p .feature) (p .option) (p .depth) (p .next) (clinicAt room c) (step catalogue (clinicAt room c))
+      → StepRules catalogue (p .feature) (p .option) (p .depth) (p .next) (clinicAt room c) (step catalogue (clinicAt room c))
   pub answered : (w : ℕ) → TurnsAnswered catalogue room w (perform catalogue (turns w) room)
 
 -- where board, catalogue and desk pass their checks, 1 to 20: turns, which have no others, are accepted

@@ -1,5 +1,5 @@
 -- The small words that stand in many statements, on both sides of some: each said once, in simpler ones.
-use Prim.Native.Nat.{ℕ, suc, _+_, _*_, _/_, _%_, _^_, _≤_}
+use Prim.Native.Nat.{ℕ, suc, _+_, _*_, _/_, _%_, _^_, _≤_, _<_}
 use mathlib.Core.Path.{_≡_}
 use mathlib.Core.Logic.{_↔_}
 use mathlib.Core.Bool.{true, false}
@@ -7,7 +7,10 @@ use mathlib.Core.List.{List, [], _∷_, _++_, map, flatten, List·Memᴰ}
 use lib.ListN.{length, getD, take, drop}
 use Rattle.builds.specs.Lists.{OneTo, countFrom, sum, put}
 use Rattle.builds.specs.Rule.{Rule, optionAt, satisfies}
+use Rattle.builds.specs.Catalogue.{Catalogue}
 use Rattle.builds.specs.Format.{ruleWritten}
+use Rattle.builds.specs.Build.{IsBuild}
+use Rattle.builds.specs.Alternative.{Alternative}
 use Rattle.search.specs.declared.Place.{Place}
 use Rattle.search.specs.declared.State.{State}
 use Rattle.search.specs.declared.State.the-variants.{AtWork}
@@ -24,6 +27,10 @@ pub record Words : Type 0 where
   -- a build satisfies a rule when its options at the rule's features, in the rule's order, are one of the rows
   pub satisfied : (build : List ℕ) (rule : Rule)
       → (satisfies build rule ≡ true) ↔ List·Memᴰ (map (optionAt build) (rule .features)) (rule .rows)
+  -- an alternative for feature i: an option contained in some build that satisfies all rules and all the other choices
+  pub alternative : (catalogue : Catalogue) (choices : List ℕ) (i a : ℕ) → Alternative catalogue choices i a
+      ↔ ((build : List ℕ) × IsBuild catalogue [] build × ((f : ℕ) → f < length (catalogue .sizes) → (f ≡ i → ⊥)
+      → (getD choices f 255 ≡ 255 → ⊥) → optionAt build f ≡ getD choices f 255) × (optionAt build i ≡ a))
   -- arity, row count, features, rows
   pub written : (rule : Rule)
       → ruleWritten rule ≡ length (rule .features) ∷ length (rule .rows) ∷ (rule .features ++ flatten (rule .rows))

@@ -6,12 +6,12 @@ use Prim.Native.Nat.{ℕ, _^_, _≤_, _<_}
 use mathlib.Core.Path.{_≡_, refl, sym, _∙_}
 use mathlib.Core.Logic.{_↔_, _⊎_, inl, inr, ⊎-elim}
 use mathlib.Core.Bool.{Bool, true, false, cond, not, _&&_, false≢true}
-use mathlib.Core.List.{List}
+use mathlib.Core.List.{List, map}
 use mathlib.Core.Option.{Option, none, some}
 use native.Mathlib.Omega.{arith}
 use lib.ListN.{length, getD, length-map, length-replicate, List·getD-eq-default}
 use lib.Dec.{ltb, eqb}
-use borrow.Author.Tests.{ltb-true, ltb-false, lt-ltb, le-ltb}
+use borrow.Author.Tests.{ltb-true, ltb-false, lt-ltb, le-ltb, eqb-true, eqb-false}
 use Rattle.builds.specs.Catalogue.{Catalogue}
 use Rattle.builds.specs.Fault.{faultOf}
 use Rattle.builds.specs.Lists.{Every}
@@ -37,6 +37,29 @@ use Rattle.search.proofs.WorkedPairs.{shownOr, worked-whole, worked-not
 abbrev pub isInForce : List ℕ → ℕ → ℕ → Bool
 isInForce choices i a = not (eqb (getD choices i 255) 255) && eqb a (getD choices i 255)
 
+force-bit : (choices : List ℕ) (i a : ℕ) → hasBit (getD (map inForce choices) i 0) a ≡ isInForce choices i a
+force-bit choices i a = rw (in-force-at choices i) (go (getD choices i 255) (eqb (getD choices i 255) 255))
+  where
+    go : (choice : ℕ) (unchosen : Bool) → hasBit (cond unchosen 0 (2 ^ choice)) a ≡ (not unchosen && eqb a choice)
+    go choice true = no-bit-above 0 0 a (omega arith) (omega arith)
+    go choice false = one-bit choice a
+
+-- the bits of the options in force, in words
+pub in-force-alone : (choices : List ℕ) (i a : ℕ)
+    → (hasBit (getD (map inForce choices) i 0) a ≡ true) ↔ ((getD choices i 255 ≡ a) × (a ≡ 255 → ⊥))
+in-force-alone choices i a =
+    rw (force-bit choices i a) (go (getD choices i 255) (eqb (getD choices i 255) 255) (eqb a (getD choices i 255)) refl refl)
+  where
+    go : (choice : ℕ) (unchosen same : Bool) → eqb choice 255 ≡ unchosen → eqb a choice ≡ same
+        → ((not unchosen && same) ≡ true) ↔ ((choice ≡ a) × (a ≡ 255 → ⊥))
+    go choice true same e f =
+        let none = eqb-true choice 255 e in
+        (λ h. absurd (false≢true h), λ h. absurd (h .1 (sym (h .0) ∙ none)))
+    go choice false true e f =
+        let is = eqb-true a choice f in
+        (λ h. (sym is, λ none. eqb-false choice 255 e (sym is ∙ none)), λ h. refl)
+    go choice false false e f = (λ h. absurd (false≢true h), λ h. absurd (eqb-false a choice f (sym (h .0))))
+
 module _ (sizes choices : List ℕ) (sixteen : length choices ≡ 16) where
   posted-whole : WholeClinic (posted sizes choices)
   unfolding posted
@@ -56,11 +79,7 @@ module _ (sizes choices : List ℕ) (sixteen : length choices ≡ 16) where
 
   posted-alternative : (i a : ℕ) → alternativeOf i a (posted sizes choices) ≡ isInForce choices i a
   unfolding posted
-  posted-alternative i a = rw (in-force-at choices i) (go (getD choices i 255) (eqb (getD choices i 255) 255))
-    where
-      go : (choice : ℕ) (unchosen : Bool) → hasBit (cond unchosen 0 (2 ^ choice)) a ≡ (not unchosen && eqb a choice)
-      go choice true = no-bit-above 0 0 a (omega arith) (omega arith)
-      go choice false = one-bit choice a
+  posted-alternative i a = force-bit choices i a
 
 -- an option that a feature has is one of a feature of the catalogue
 pub option-of : (sizes : List ℕ) (i a : ℕ) → a < getD sizes i 0 → i < length sizes
