@@ -1,17 +1,21 @@
--- Runs that the paper works by hand, as whole calls on a desk and board: what the definitions give, and what the paper
--- says. Computed like the worked cases, proofs/PaperRuns.antt.
+-- Runs that the paper works by hand, and Example 1 of document 002, as whole calls on a desk and board: what the definitions
+-- give, and what the papers say. Computed like the worked cases, proofs/PaperRuns.antt.
 use Prim.Native.Nat.{ℕ, zero, suc}
 use mathlib.Core.List.{List, [], _∷_, _++_, map}
-use lib.ListN.{take, replicate}
+use lib.ListN.{take, set, replicate}
 use Rattle.search.specs.declared.Seat.{Seat}
+use Rattle.search.specs.declared.State.the-variants.{Ready}
+use Rattle.search.specs.Clinic.{nothing16, closedSeat}
+use Rattle.runs.specs.declared.Desk.{Desk}
 use Rattle.runs.specs.Room.{Room, seatAt, emptyBoard}
-use Rattle.runs.specs.declared.Asking.the-variants.{Enter, Choose}
+use Rattle.runs.specs.declared.Asking.the-variants.{Enter, Choose, Read}
+use Rattle.runs.specs.declared.Reading.the-variants.{Alternatives, Example}
 use Rattle.runs.specs.Call.{Call, asks, turns}
 use Rattle.runs.specs.Turn.{turn}
 use Rattle.runs.specs.RefusalTable.{refusal}
 use Rattle.runs.specs.Perform.{opening}
 use Rattle.runs.specs.Run.{afterCalls}
-use Rattle.search.specs.Trolley.{trolley}
+use Rattle.search.specs.Trolley.{trolley, allDifferent, firstChosen, twoChosen}
 use Rattle.worked.specs.Worked.{stateNumber}
 
 -- desk and board after some calls on a trolley's desk, opened on a board of zeros
@@ -55,7 +59,7 @@ unfoldable pub chosen : ℕ → List Call
 chosen c = entered c ++ asks c (Choose 2 0) ∷ []
 
 unfoldable pub listing : ℕ → List Call
-listing c = chosen c ++ turns 40 ∷ []
+listing c = chosen c ++ turns 43 ∷ []
 
 unfoldable pub stateAndMasks : Seat → List ℕ
 stateAndMasks seat = stateNumber (seat .state) ∷ take 3 (seat .masks)
@@ -71,6 +75,17 @@ listedExpected = 1 ∷ 2 ∷ 5 ∷ 1 ∷ []
 unfoldable pub numberAfter : List Call → Call → ℕ
 numberAfter calls call = refusal trolley call (record { desk = after calls .desk; board = emptyBoard })
 
+-- The alternatives of feature 2 then are options 0 and 1. The one that is not in force answers example with 37 and choose with
+-- 36; a feature without a choice has no alternatives, 38, and there is no feature 3, 34.
+unfoldable pub replacing : List ℕ
+replacing =
+    numberAfter (listing 0) (asks 0 (Read (Alternatives 2))) ∷ numberAfter (listing 0) (asks 0 (Read (Example 2 1)))
+    ∷ numberAfter (listing 0) (asks 0 (Choose 2 1)) ∷ numberAfter (listing 0) (asks 0 (Read (Alternatives 1)))
+    ∷ numberAfter (listing 0) (asks 0 (Read (Alternatives 3))) ∷ []
+
+unfoldable pub replacingExpected : List ℕ
+replacingExpected = 0 ∷ 37 ∷ 36 ∷ 38 ∷ 34 ∷ []
+
 -- Choosing twice on one feature, the seat being ready again, also for the same option; before it is ready; option 2 of
 -- feature 2.
 unfoldable pub numbers : List ℕ
@@ -80,3 +95,31 @@ numbers =
 
 unfoldable pub numbersExpected : List ℕ
 numbersExpected = 36 ∷ 36 ∷ 33 ∷ 35 ∷ []
+
+-- Example 1 of document 002 at seat 5: it enters, assigns x1 = 1, then x2 = 4, in 67, 56 and 39 turns. Each part starts from the
+-- ready seat that the one before leaves; what the board holds plays no part in it, so that the empty one serves.
+unfoldable pub readySeat : List ℕ → List ℕ → List ℕ → Seat
+readySeat choices masks alternatives = record {
+  state = Ready;
+  choices = choices;
+  masks = masks ++ replicate 13 0;
+  trial = nothing16;
+  alternatives = alternatives ++ replicate 13 0;
+}
+
+-- the record of seat 5, such as it was, after some calls
+unfoldable pub seatAfter : Seat → List Call → Seat
+seatAfter seat calls =
+    let desk : Desk = record { seats = set (replicate 8 closedSeat) 5 seat; next = 6 } in
+    seatAt (afterCalls allDifferent calls (record { desk = desk; board = emptyBoard }) .desk) 5
+
+unfoldable pub unassigned : Seat
+unassigned = readySeat nothing16 (15 ∷ 15 ∷ 15 ∷ []) (0 ∷ 0 ∷ 0 ∷ [])
+
+-- x1: 1, and beside it 2, 3, 4
+unfoldable pub assignedOne : Seat
+assignedOne = readySeat firstChosen (1 ∷ 14 ∷ 14 ∷ []) (15 ∷ 0 ∷ 0 ∷ [])
+
+-- x1: 1, and beside it 2 and 3 alone; x2: 4, and beside it 2 and 3
+unfoldable pub assignedTwo : Seat
+assignedTwo = readySeat twoChosen (1 ∷ 8 ∷ 6 ∷ []) (7 ∷ 14 ∷ 0 ∷ [])

@@ -45,3 +45,10 @@ noChoices = nothing16
 -- option 0 of feature 2
 abbrev pub lastChosen : List ℕ
 lastChosen = set nothing16 2 0
+
+-- option 0 of feature 0; then also option 3 of feature 1
+abbrev pub firstChosen : List ℕ
+firstChosen = set nothing16 0 0
+
+abbrev pub twoChosen : List ℕ
+twoChosen = set firstChosen 1 3

@@ -1,5 +1,5 @@
--- The worked cases P1 to P10, one list: what the definitions give, and what the paper says. The claim that they agree
--- is one line, proofs/Worked.antt.
+-- The worked cases P1 to P10, one list: what the definitions give, and what the paper says; then the alternatives, on the
+-- trolley and on Example 1 of document 002, whose Table 1 has them. The claim that they agree is one line, proofs/Worked.antt.
 use Prim.Native.Nat.{ℕ, _+_}
 use mathlib.Core.Bool.{cond}
 use mathlib.Core.List.{List, [], _∷_, map}
@@ -13,7 +13,7 @@ use Rattle.search.specs.declared.State.the-variants.{Closed, Ready, AtWork}
 use Rattle.search.specs.Clinic.{Clinic, exampleIn}
 use Rattle.search.specs.Step.{steps, posted}
 use Rattle.search.specs.Count.{pairCounts, jobSteps}
-use Rattle.search.specs.Trolley.{trolley, allUnequal, single, noChoices, lastChosen}
+use Rattle.search.specs.Trolley.{trolley, allUnequal, allDifferent, single, noChoices, lastChosen, firstChosen, twoChosen}
 
 pub record Case : Type 0 where
   pub number : ℕ
@@ -27,6 +27,9 @@ jobAfter catalogue choices n = steps catalogue n (posted (catalogue .sizes) choi
 -- the masks of the catalogue's features
 unfoldable pub masksOf : ℕ → Clinic → List ℕ
 masksOf features clinic = take features (clinic .seat .masks)
+
+unfoldable pub alternativesOf : ℕ → Clinic → List ℕ
+alternativesOf features clinic = take features (clinic .seat .alternatives)
 
 unfoldable pub exampleOf : ℕ → ℕ → Clinic → List ℕ
 exampleOf i a clinic = exampleIn (clinic .share) i a
@@ -75,11 +78,11 @@ cases =
       given = lengths trolley noChoices 38 39;
       expected = (5 ∷ 3 ∷ 5 ∷ 5 ∷ 4 ∷ 5 ∷ 8 ∷ 4 ∷ []) ∷ (39 ∷ []) ∷ (2 ∷ []) ∷ (1 ∷ []) ∷ [];
     }
-    ∷ record { number = 7; given = masksOf 3 (jobAfter trolley lastChosen 40) ∷ []; expected = (2 ∷ 5 ∷ 1 ∷ []) ∷ [] }
+    ∷ record { number = 7; given = masksOf 3 (jobAfter trolley lastChosen 43) ∷ []; expected = (2 ∷ 5 ∷ 1 ∷ []) ∷ [] }
     ∷ record {
       number = 8;
-      given = lengths trolley lastChosen 39 40;
-      expected = (5 ∷ 3 ∷ 5 ∷ 5 ∷ 8 ∷ 5 ∷ 8 ∷ 1 ∷ []) ∷ (40 ∷ []) ∷ (2 ∷ []) ∷ (1 ∷ []) ∷ [];
+      given = lengths trolley lastChosen 42 43;
+      expected = (5 ∷ 3 ∷ 5 ∷ 5 ∷ 8 ∷ 5 ∷ 8 ∷ 4 ∷ []) ∷ (43 ∷ []) ∷ (2 ∷ []) ∷ (1 ∷ []) ∷ [];
     }
     ∷ record {
       number = 9;
@@ -92,5 +95,27 @@ cases =
       number = 10;
       given = masksOf 1 (jobAfter single noChoices 1) ∷ lengths single noChoices 0 1;
       expected = (1 ∷ []) ∷ (1 ∷ []) ∷ (1 ∷ []) ∷ (2 ∷ []) ∷ (1 ∷ []) ∷ [];
+    }
+    -- P7's choice could be replaced by option 1: 011 has it; as posted, the option in force alone counts
+    ∷ record {
+      number = 11;
+      given = alternativesOf 3 (jobAfter trolley lastChosen 0) ∷ alternativesOf 3 (jobAfter trolley lastChosen 43) ∷ [];
+      expected = (0 ∷ 0 ∷ 1 ∷ []) ∷ (0 ∷ 0 ∷ 3 ∷ []) ∷ [];
+    }
+    -- Example 1 of document 002: x1 = 1 (option 0) is in force, and 2, 3, 4 could replace it
+    ∷ record {
+      number = 12;
+      given = masksOf 3 (jobAfter allDifferent firstChosen 56) ∷ alternativesOf 3 (jobAfter allDifferent firstChosen 56)
+          ∷ lengths allDifferent firstChosen 55 56;
+      expected = (1 ∷ 14 ∷ 14 ∷ []) ∷ (15 ∷ 0 ∷ 0 ∷ [])
+          ∷ (6 ∷ 5 ∷ 4 ∷ 4 ∷ 2 ∷ 5 ∷ 4 ∷ 4 ∷ 8 ∷ 6 ∷ 4 ∷ 4 ∷ []) ∷ (56 ∷ []) ∷ (2 ∷ []) ∷ (1 ∷ []) ∷ [];
+    }
+    -- Table 1: then x2 = 4 (option 3) is, too; x1 has 2 and 3 beside 1, x2 has 2 and 3 beside 4
+    ∷ record {
+      number = 13;
+      given = masksOf 3 (jobAfter allDifferent twoChosen 39) ∷ alternativesOf 3 (jobAfter allDifferent twoChosen 39)
+          ∷ lengths allDifferent twoChosen 38 39;
+      expected = (1 ∷ 8 ∷ 6 ∷ []) ∷ (7 ∷ 14 ∷ 0 ∷ [])
+          ∷ (4 ∷ 3 ∷ 3 ∷ 2 ∷ 2 ∷ 5 ∷ 4 ∷ 4 ∷ 3 ∷ 3 ∷ 3 ∷ 3 ∷ []) ∷ (39 ∷ []) ∷ (2 ∷ []) ∷ (1 ∷ []) ∷ [];
     }
     ∷ []

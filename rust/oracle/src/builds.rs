@@ -1,5 +1,6 @@
-//! Builds by brute force, and what a ready seat must show by demand 2. Nothing here knows of the
-//! written search, but for the last function, which counts K by plain recursion.
+//! Builds by brute force, and what a ready seat must show by demand 2, with what R-6 adds to it.
+//! Nothing here knows of the written search, but for the last function, which counts K by plain
+//! recursion.
 
 use crate::catalogue::{Catalogue, FEATURES};
 use crate::record::{Record, EXAMPLE, NONE, SHARE};
@@ -67,6 +68,22 @@ pub fn shown(
     (masks, share)
 }
 
+/// The alternatives of a ready seat as R-6 has them: "For a feature with a choice … the options
+/// contained in some build that satisfies all rules and all the other choices"; "empty where no
+/// choice is in force".
+pub fn alternatives(builds: &[[u8; FEATURES]], choices: &[u8; FEATURES]) -> [u16; FEATURES] {
+    let mut masks = [0u16; FEATURES];
+    for feature in (0..FEATURES).filter(|&feature| choices[feature] != NONE) {
+        for build in builds {
+            let mut others = (0..FEATURES).filter(|&other| other != feature);
+            if others.all(|f| choices[f] == NONE || choices[f] == build[f]) {
+                masks[feature] |= 1 << build[feature];
+            }
+        }
+    }
+    masks
+}
+
 /// What is wrong with a ready seat of a run, if anything is.
 pub fn wrong_when_ready(
     catalogue: &Catalogue,
@@ -81,6 +98,15 @@ pub fn wrong_when_ready(
             return Some(format!(
                 "feature {} has choice {} and shows mask {}",
                 feature, choice, record.masks[feature]
+            ));
+        }
+        // "empty where no choice is in force", and "the option in force always counts"
+        let alternatives = record.alternatives[feature];
+        let fine = if choice == NONE { alternatives == 0 } else { alternatives & (1 << choice) != 0 };
+        if !fine {
+            return Some(format!(
+                "feature {} has choice {} and alternatives {}",
+                feature, choice, alternatives
             ));
         }
     }
@@ -101,6 +127,10 @@ pub fn wrong_when_ready(
     if masks != record.masks {
         return Some(format!("masks {:?}, by brute force {:?}", record.masks, masks));
     }
+    let replacing = alternatives(builds, &record.choices);
+    if replacing != record.alternatives {
+        return Some(format!("alternatives {:?}, by brute force {:?}", record.alternatives, replacing));
+    }
     let place = (0..SHARE).find(|&place| share[place] != examples[place])?;
     Some(format!(
         "byte {} of the share is {}, by brute force {}",
@@ -108,16 +138,12 @@ pub fn wrong_when_ready(
     ))
 }
 
-/// K, pair by pair: how many steps the written search takes for each pair (i, a).
+/// K, pair by pair: how many steps the written search takes for each pair (i, a), with the choice
+/// in force at i, if there is one, set aside.
 pub fn steps_by_pair(catalogue: &Catalogue, choices: &[u8; FEATURES]) -> Vec<u64> {
     let mut steps = Vec::new();
     for i in 0..catalogue.features() {
         for a in 0..catalogue.sizes[i] {
-            if choices[i] != NONE && choices[i] != a {
-                // "Nothing is tried", yet it is one step.
-                steps.push(1);
-                continue;
-            }
             let mut fixed = *choices;
             fixed[i] = a;
             let mut count = 0;

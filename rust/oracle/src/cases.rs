@@ -1,11 +1,12 @@
 //! The paper's worked cases, and the readings that these cases alone do not tell apart.
 
-use crate::builds::{builds, shown, steps_by_pair};
+use crate::builds::{alternatives, builds, shown, steps_by_pair};
 use crate::catalogue::{read, Catalogue};
 use crate::desk::{Desk, Lent, BOARD};
 use crate::expect::transcript;
 use crate::record::{Record, State, NONE};
-use crate::search::step;
+use crate::words;
+use crate::search::{post, step};
 
 const TROLLEY: [u16; 24] =
     [2, 4, 0, 1, 0, 1, 1, 0, 1, 2, 2, 1, 2, 4, 1, 2, 0, 0, 1, 1, 2, 0, 2, 1];
@@ -69,7 +70,7 @@ fn p2_to_p5_options_and_examples() {
 fn searched(catalogue: &Catalogue, choices: [u8; 16]) -> (Vec<u64>, Record) {
     let mut record = Record::closed();
     record.choices = choices;
-    crate::search::start_pair(catalogue, &mut record, 0, 0);
+    post(catalogue, &mut record);
     let mut share = vec![NONE; 4096];
     let mut steps: Vec<u64> = Vec::new();
     let mut pair = None;
@@ -96,13 +97,194 @@ fn p6_steps_of_the_first_job() {
 fn p7_p8_after_choosing() {
     let mut choices = [NONE; 16];
     choices[2] = 0;
-    let expected = vec![5, 3, 5, 5, 8, 5, 8, 1];
+    // The last pair by R-6: feature 2's choice set aside, option 1 alone there. 0 placed; 0 fails
+    // after it, 1 passes; then 1 passes: 011, four steps.
+    let expected = vec![5, 3, 5, 5, 8, 5, 8, 4];
     let (steps, record) = searched(&trolley(), choices);
     assert_eq!(steps, expected);
     assert_eq!(steps_by_pair(&trolley(), &choices), expected);
-    assert_eq!(expected.iter().sum::<u64>(), 40);
+    assert_eq!(expected.iter().sum::<u64>(), 43);
     assert_eq!(record.masks[..3], [2, 5, 1]);
     assert_eq!(shown(&trolley(), &builds(&trolley()).unwrap(), &choices).0[..3], [2, 5, 1]);
+    assert_eq!(record.alternatives[..3], [0, 0, 3]);
+    assert_eq!(alternatives(&builds(&trolley()).unwrap(), &choices)[..3], [0, 0, 3]);
+}
+
+/// Document 002, Example 1, as one rule: values 1 to 4 are options 0 to 3.
+fn all_different() -> Vec<u16> {
+    let mut list = vec![3, 24, 0, 1, 2];
+    for row in 0..64 {
+        let (x, y, z) = (row / 16, row / 4 % 4, row % 4);
+        if x != y && x != z && y != z {
+            list.extend([x, y, z]);
+        }
+    }
+    list
+}
+
+/// The same as three rules, each two features unequal.
+fn two_by_two() -> Vec<u16> {
+    let mut list = Vec::new();
+    for (a, b) in [(0, 1), (0, 2), (1, 2)] {
+        list.extend([2, 12, a, b]);
+        for row in (0..16).filter(|row| row / 4 != row % 4) {
+            list.extend([row / 4, row % 4]);
+        }
+    }
+    list
+}
+
+/// After x1 = 1, then x2 = 4, masks and alternatives are those of Table 1; the steps of each pair by
+/// hand.
+#[test]
+fn example_1_and_table_1() {
+    let two_by_two = read(&[4, 4, 4], &two_by_two()).unwrap();
+    let all_different = read(&[4, 4, 4], &all_different()).unwrap();
+    let check = |catalogue: &Catalogue, chosen: [u8; 3], masks: [[u16; 3]; 2], pairs: [u64; 12]| {
+        let mut choices = [NONE; 16];
+        choices[..3].copy_from_slice(&chosen);
+        let (steps, record) = searched(catalogue, choices);
+        assert_eq!(steps, pairs);
+        assert_eq!(steps_by_pair(catalogue, &choices), pairs);
+        assert_eq!((&record.masks[..3], &record.alternatives[..3]), (&masks[0][..], &masks[1][..]));
+        let found = builds(catalogue).unwrap();
+        assert_eq!(record.masks, shown(catalogue, &found, &choices).0);
+        assert_eq!(record.alternatives, alternatives(&found, &choices));
+        steps.iter().sum::<u64>()
+    };
+    let k = |catalogue: &Catalogue, pairs: [[u64; 12]; 3]| {
+        [
+            check(catalogue, [NONE; 3], [[15, 15, 15], [0, 0, 0]], pairs[0]),
+            check(catalogue, [0, NONE, NONE], [[1, 14, 14], [15, 0, 0]], pairs[1]),
+            check(catalogue, [0, 3, NONE], [[1, 8, 6], [7, 14, 0]], pairs[2]),
+        ]
+    };
+    let pairs = [
+        [6, 5, 4, 4, 7, 5, 4, 4, 14, 6, 4, 4],
+        [6, 5, 4, 4, 2, 5, 4, 4, 8, 6, 4, 4],
+        [4, 3, 3, 2, 2, 5, 4, 4, 3, 3, 3, 3],
+    ];
+    assert_eq!(k(&two_by_two, pairs), [67, 56, 39]);
+    let pairs = [
+        [10, 5, 4, 4, 11, 5, 4, 4, 16, 7, 5, 5],
+        [10, 5, 4, 4, 6, 5, 4, 4, 9, 7, 5, 5],
+        [4, 3, 3, 6, 6, 5, 4, 4, 3, 3, 3, 3],
+    ];
+    assert_eq!(k(&all_different, pairs), [80, 68, 47]);
+}
+
+/// Example 1 as calls, with its one rule.
+#[test]
+fn example_1_by_calls() {
+    let list: String = all_different().iter().map(|number| format!(" {}", number)).collect();
+    let script = format!(
+        "sizes 4 4 4\nrules{}\nopen\nenter 5\nturns 65535\nalternatives 5 0\nchoose 5 0 0\n\
+         alternatives 5 0\nturns 65535\nalternatives 5 0\nchoose 5 1 3\nturns 65535\nalternatives 5 0\n\
+         alternatives 5 1\nalternatives 5 2\noptions 5 2\nlist 5\n",
+        list
+    );
+    assert_eq!(
+        answers(&script)[4..],
+        [
+            "80 turns made, no seat is at work",
+            "refused 38: feature 0 has no choice",
+            "seat 5 chose option 0 of feature 0 and is at work",
+            "refused 33: seat 5 is at work",
+            "68 turns made, no seat is at work",
+            "feature 0: 4 alternatives: 0 1 2 3",
+            "seat 5 chose option 3 of feature 1 and is at work",
+            "47 turns made, no seat is at work",
+            "feature 0: 3 alternatives: 0 1 2",
+            "feature 1: 3 alternatives: 1 2 3",
+            "refused 38: feature 2 has no choice",
+            "feature 2: 2 left: 1 2",
+            "seat 5 is ready",
+            "feature 0: 1 left: 0; with 0: 0 3 1; chosen; alternatives: 0 1 2",
+            "feature 1: 1 left: 3; with 3: 0 3 1; chosen; alternatives: 1 2 3",
+            "feature 2: 2 left: 1 2; with 1: 0 3 1",
+            "at work: none",
+        ]
+    );
+}
+
+#[test]
+fn the_trolleys_alternatives() {
+    let chosen = "enter 0\nturns 39\nchoose 0 2 0\n";
+    // "its bit is set at posting"
+    let posted = last(&format!("{}seat 0\n", chosen));
+    assert!(posted.contains("; masks 0 0 0 0 0 0 0 0 0 0 0 0 0 0 0 0; alternatives 0 0 1 0 0 "), "{}", posted);
+    // Not found before the last step of the last pair.
+    let almost = last(&format!("{}turns 42\nseat 0\n", chosen));
+    assert!(almost.contains("; masks 2 5 1 0 "), "{}", almost);
+    assert!(almost.contains("at work at feature 2 option 1 depth 2 next 1;"), "{}", almost);
+    assert!(almost.contains("; alternatives 0 0 1 0 "), "{}", almost);
+    let ready = format!("{}turns 43\n", chosen);
+    assert!(last(&format!("{}seat 0\n", ready)).contains("ready; choices - - 0 - "));
+    assert_eq!(last(&format!("{}alternatives 0 2\n", ready)), "feature 2: 2 alternatives: 0 1");
+    assert_eq!(refusal(&format!("{}alternatives 0 1\n", ready)), 38);
+    // An alternative has no example and is not left; the feature has a choice all the same.
+    assert_eq!(refusal(&format!("{}example 0 2 1\n", ready)), 37);
+    assert_eq!(refusal(&format!("{}choose 0 2 1\n", ready)), 36);
+    assert_eq!(last(&format!("{}share 0\n", ready)), "share 0: 4 examples");
+    // With option 1 of feature 0 beside it the builds are 100 and 120: 0 and 2 are no alternatives
+    // there (011 and 211 have option 1 at feature 2), 0 and 1 are at feature 2 (100 and 121).
+    let both = format!("{}choose 0 0 1\nturns 65535\n", ready);
+    assert_eq!(last(&format!("{}alternatives 0 0\n", both)), "feature 0: 1 alternatives: 1");
+    assert_eq!(last(&format!("{}alternatives 0 2\n", both)), "feature 2: 2 alternatives: 0 1");
+    // Posting forgets the bits found before, also those of the other choices.
+    let again = format!("{}choose 0 1 0\nseat 0\n", both);
+    assert!(last(&again).contains("; alternatives 2 1 1 0 "), "{}", last(&again));
+    let dropped = format!("{}relax 0 2\nseat 0\n", both);
+    assert!(last(&dropped).contains("; alternatives 2 0 0 0 "), "{}", last(&dropped));
+    // 100 alone: feature 0 keeps 1, feature 1 may be 0 or 2 (120), feature 2 keeps 0 (101 is none).
+    let alone = format!("{}choose 0 1 0\nturns 65535\nseat 0\n", both);
+    assert!(last(&alone).contains("; masks 2 1 1 0 "), "{}", last(&alone));
+    assert!(last(&alone).contains("; alternatives 2 5 1 0 "), "{}", last(&alone));
+    let left = format!("{}leave 0\nseat 0\n", both);
+    assert_eq!(last(&left), last("seat 0\n"));
+}
+
+/// "the current domain that it would have if the user would take this assignment back" (002): for
+/// all choices that can be made on the trolley and on Example 1.
+#[test]
+fn relaxing_leaves_exactly_the_alternatives() {
+    let mut relaxed = 0;
+    for catalogue in [trolley(), read(&[4, 4, 4], &two_by_two()).unwrap()] {
+        let mut open = vec![[NONE; 16]];
+        while let Some(choices) = open.pop() {
+            let ready = searched(&catalogue, choices).1;
+            for feature in 0..3 {
+                if choices[feature] == NONE {
+                    assert_eq!(ready.alternatives[feature], 0);
+                    for option in (0..4).filter(|option| ready.masks[feature] & (1 << option) != 0) {
+                        let mut more = choices;
+                        more[feature] = option;
+                        open.push(more);
+                    }
+                } else {
+                    let mut fewer = choices;
+                    fewer[feature] = NONE;
+                    assert_eq!(searched(&catalogue, fewer).1.masks[feature], ready.alternatives[feature]);
+                    relaxed += 1;
+                }
+            }
+        }
+    }
+    assert!(relaxed > 300, "{}", relaxed);
+}
+
+/// Eight ready seats choose in turn; each has 43 steps, and next is 0.
+#[test]
+fn eight_seats_choose_337_and_344() {
+    let enter: String = (0..8).map(|seat| format!("enter {}\n", seat)).collect();
+    let choose: String = (0..8).map(|seat| format!("choose {} 2 0\n", seat)).collect();
+    let before = format!("{}turns 312\n{}", enter, choose);
+    let at = |turns: u32, seat: u32| last(&format!("{}turns {}\nseat {}\n", before, turns, seat));
+    for (turn, seat) in [(337, 0), (344, 7)] {
+        assert!(at(turn - 1, seat).contains("at work"));
+        assert!(at(turn, seat).starts_with(&format!("seat {}: ready;", seat)));
+    }
+    assert_eq!(last(&format!("{}turns 65535\n", before)), "344 turns made, no seat is at work");
 }
 
 #[test]
@@ -139,11 +321,11 @@ fn the_listings_state() {
     assert_eq!(
         answers(script)[3..],
         [
-            "40 turns made, no seat is at work",
+            "43 turns made, no seat is at work",
             "seat 3 is ready",
             "feature 0: 1 left: 1; with 1: 1 0 0",
             "feature 1: 2 left: 0 2; with 0: 1 0 0",
-            "feature 2: 1 left: 0; with 0: 1 0 0; chosen",
+            "feature 2: 1 left: 0; with 0: 1 0 0; chosen; alternatives: 0 1",
             "at work: none",
         ]
     );
@@ -164,9 +346,10 @@ fn edges_of_the_trolley_by_hand() {
     assert_eq!((refusal(&long(8192)), refusal(&long(8193))), (0, 12));
     let chosen = "enter 0\nturns 39\nchoose 0 2 0\n";
     assert_eq!(refusal(&format!("{}choose 0 2 0\n", chosen)), 33);
-    assert_eq!(refusal(&format!("{}turns 40\nchoose 0 2 0\n", chosen)), 36);
-    assert_eq!(refusal(&format!("{}turns 40\nchoose 0 2 1\n", chosen)), 36);
-    assert_eq!(refusal(&format!("{}turns 40\nchoose 0 2 2\n", chosen)), 35);
+    assert_eq!(refusal(&format!("{}turns 42\nchoose 0 2 0\n", chosen)), 33);
+    assert_eq!(refusal(&format!("{}turns 43\nchoose 0 2 0\n", chosen)), 36);
+    assert_eq!(refusal(&format!("{}turns 43\nchoose 0 2 1\n", chosen)), 36);
+    assert_eq!(refusal(&format!("{}turns 43\nchoose 0 2 2\n", chosen)), 35);
 }
 
 #[test]
@@ -219,11 +402,58 @@ fn next_greater_goes_by_value() {
 }
 
 #[test]
-fn rule_1_at_every_step_and_every_pair() {
-    let setup = "sizes 2 2\nrules\nset-choice 0 0 1\nset-work 0 0 0 1 0\nset-trial 0 0 0";
+fn a_pair_chosen_otherwise_is_searched() {
+    // Not at the last feature: v is placed, depth 1 is next, nothing is set.
+    let setup = "sizes 2 2\nrules\nset-choice 0 0 1\nset-work 0 0 0 0 0";
+    assert_eq!(state_after(setup), "seat 0: at work at feature 0 option 0 depth 1 next 0");
+    assert!(after_step(setup, false)[0].contains("; masks 0 0 0 0 0 0 0 0 0 0 0 0 0 0 0 0; alternatives 0 0 "));
+    // Found: the bit beside the bits that stand, no example, and the pair ends.
+    let setup = "sizes 4\nrules\nset-choice 0 0 3\nset-alternatives 0 0 4\nset-work 0 0 0 0 0";
     assert_eq!(state_after(setup), "seat 0: at work at feature 0 option 1 depth 0 next 1");
-    let setup = "sizes 4\nrules\nset-choice 0 0 3\nset-work 0 0 0 0 0";
+    assert!(after_step(setup, false)[0].contains("; masks 0 0 "));
+    assert!(after_step(setup, false)[0].contains("; alternatives 5 0 "));
+    assert_eq!(after_step(setup, true), ["share 0: 0 examples"]);
+    // Not found: 1 at feature 1 is refused, and there is no other candidate anywhere.
+    let setup = "sizes 2 2\nrules 1 1 1 0\nset-choice 0 0 1\nset-choice 0 1 1\n\
+                 set-work 0 0 0 1 1\nset-trial 0 0 0";
     assert_eq!(state_after(setup), "seat 0: at work at feature 0 option 1 depth 0 next 1");
+    assert!(after_step(setup, false)[0].contains("; alternatives 0 0 "));
+    // Only the pair's own choice is set aside: at feature 1 the choice alone is the candidate.
+    let setup = "sizes 2 3\nrules\nset-choice 0 0 1\nset-choice 0 1 2\nset-work 0 0 0 0 0";
+    assert_eq!(state_after(setup), "seat 0: at work at feature 0 option 0 depth 1 next 2");
+}
+
+#[test]
+fn a_pair_chosen_otherwise_leaves_masks_and_bytes_as_they_are() {
+    // Stale bits and bytes at the pair stay, set or not; v is placed though it is no candidate.
+    for (mask, byte) in [(0, 255), (1, 7), (3, 7), (2, 0)] {
+        let setup = format!(
+            "sizes 2\nrules\nset-choice 0 0 1\nset-mask 0 0 {}\nset-byte 3 {}\nset-work 0 0 0 0 1",
+            mask, byte
+        );
+        let record = &after_step(&setup, false)[0];
+        assert!(record.contains(&format!("; masks {} 0 ", mask)), "{}", record);
+        assert!(record.contains("; alternatives 1 0 "), "{}", record);
+        let bytes = if byte == 255 { "-".to_string() } else { byte.to_string() };
+        let shown = format!("option 0 of feature 0: - - - {}{}", bytes, " -".repeat(12));
+        let expected = if byte == 255 { "share 0: 0 examples" } else { &shown[..] };
+        assert_eq!(after_step(&setup, true)[0], expected);
+    }
+}
+
+#[test]
+fn the_pair_of_the_option_in_force_leaves_the_alternatives_as_they_are() {
+    for alternatives in [0, 1, 2, 3] {
+        let setup = format!(
+            "sizes 2\nrules\nset-choice 0 0 1\nset-alternatives 0 0 {}\nset-work 0 0 1 0 1",
+            alternatives
+        );
+        let record = &after_step(&setup, false)[0];
+        assert!(record.starts_with("seat 0: ready;"), "{}", record);
+        assert!(record.contains("; masks 2 0 "), "{}", record);
+        assert!(record.contains(&format!("; alternatives {} 0 ", alternatives)), "{}", record);
+        assert_eq!(after_step(&setup, true)[0], format!("option 1 of feature 0: 1{}", " -".repeat(15)));
+    }
 }
 
 #[test]
@@ -266,6 +496,61 @@ fn number_20_easy_to_miss() {
     assert_eq!(refusal("set-work 0 0 1 0 0\nset-choice 0 0 2\nturns 0\n"), 0);
     assert_eq!(refusal("set-byte 9 9\nturns 0\n"), 0);
     assert_eq!(refusal("set-next 8\nenter 9\n"), 20);
+}
+
+/// R-6's clauses of number 20, on seats that are closed, ready and at work.
+#[test]
+fn number_20_of_alternatives() {
+    let fits = |state: &str, choice: &str, feature: u32, mask: u32| {
+        let set = format!("{}\n{}\nset-alternatives 4 {} {}\nturns 0\n", state, choice, feature, mask);
+        refusal(&set)
+    };
+    for state in ["set-ready 4", "set-work 4 1 1 0 0", "set-work 4 0 0 0 0"] {
+        // The size of feature 0 is 3: bit 2, bit 3, all below, all.
+        let choice = "set-choice 4 0 1";
+        let masks = [0, 1, 2, 4, 7, 8, 15, 32_768, 65_535];
+        let numbers: Vec<u16> = masks.iter().map(|&mask| fits(state, choice, 0, mask)).collect();
+        // 0, 1, 4: the option in force lacks its bit, and it is not 20.
+        assert_eq!(numbers, [0, 0, 0, 0, 0, 20, 20, 20, 20]);
+        // A choice at another feature is none here; a missing feature has none.
+        assert_eq!((fits(state, choice, 1, 0), fits(state, choice, 1, 1)), (0, 20));
+        assert_eq!((fits(state, choice, 2, 2), fits(state, choice, 3, 0)), (20, 0));
+        assert_eq!((fits(state, choice, 3, 1), fits(state, choice, 15, 32_768)), (20, 20));
+        assert_eq!((fits(state, "", 0, 0), fits(state, "", 0, 1)), (0, 20));
+    }
+    assert_eq!((fits("set-closed 4", "", 0, 0), fits("set-closed 4", "", 0, 1)), (0, 20));
+    assert_eq!(fits("set-closed 4", "set-choice 4 0 0", 0, 1), 20);
+    // Size 16: every bit is below it.
+    let wide = "sizes 16\nrules\nset-ready 4\nset-choice 4 0 3\nset-alternatives 4 0 65535\n";
+    let all = format!("feature 0: 16 alternatives:{}", words::bits(65_535));
+    assert_eq!(last(&format!("{}alternatives 4 0\n", wide)), all);
+    // Every seat is looked at, and 20 comes before 30.
+    assert_eq!(refusal("set-alternatives 7 0 1\nalternatives 9 0\n"), 20);
+}
+
+#[test]
+fn refusals_of_alternatives_in_their_order() {
+    let ready = "enter 0\nturns 39\n";
+    assert_eq!(refusal(&format!("{}alternatives 0 0\n", ready)), 38);
+    assert_eq!(refusal(&format!("{}alternatives 0 2\n", ready)), 38);
+    // A missing feature has no choice either: 34 comes first.
+    assert_eq!(refusal(&format!("{}alternatives 0 3\n", ready)), 34);
+    assert_eq!(refusal(&format!("{}alternatives 0 256\n", ready)), 34);
+    assert_eq!(refusal(&format!("{}alternatives 0 4294967295\n", ready)), 34);
+    assert_eq!(refusal("alternatives 0 3\n"), 31);
+    assert_eq!(refusal("enter 0\nalternatives 0 3\n"), 33);
+    assert_eq!(refusal("alternatives 8 3\n"), 30);
+    assert_eq!(refusal("rules 0\nalternatives 8 3\n"), 14);
+    assert_eq!(refusal("board 0 0\nrules 0\nalternatives 8 3\n"), 1);
+    // A made-up seat with none, and how that reads.
+    let none = "set-ready 0\nset-choice 0 2 1\n";
+    assert_eq!(last(&format!("{}alternatives 0 2\n", none)), "feature 2: 0 alternatives");
+    assert_eq!(answers(&format!("{}list 0\n", none))[5], "feature 2: 0 left; chosen; alternatives:");
+    assert_eq!(last("alternatives 0\n"), "not understood; write: alternatives SEAT FEATURE");
+    let form = "not understood; write: set-alternatives SEAT FEATURE MASK";
+    for numbers in ["8 0 0", "0 16 0", "0 0 65536", "0 0"] {
+        assert_eq!(last(&format!("set-alternatives {}\n", numbers)), form);
+    }
 }
 
 #[test]
@@ -321,7 +606,8 @@ fn a_line_has_at_most_65536_bytes() {
 
 #[test]
 fn the_digest_byte_by_byte() {
-    // A board of no bytes and the start's desk: 8 × (5 zeros, 16 × 255, 32 zeros, 16 × 255), then 0.
+    // A board of no bytes and the start's desk, but for two masks of seat 7 (258 is the bytes 2, 1):
+    // 8 × (5 zeros, 16 × 255, 32 zeros, 32 zeros, 16 × 255), then 0.
     let mut h: u64 = 0;
     let mut take = |byte: u64, times: usize| {
         for _ in 0..times {
@@ -329,12 +615,23 @@ fn the_digest_byte_by_byte() {
             h ^= h >> 6;
         }
     };
-    for _ in 0..8 {
+    for seat in 0..8 {
         take(0, 5);
         take(255, 16);
-        take(0, 32);
+        if seat == 7 {
+            take(0, 30);
+            take(3, 1);
+            take(0, 1);
+            take(2, 1);
+            take(1, 1);
+            take(0, 30);
+        } else {
+            take(0, 32);
+            take(0, 32);
+        }
         take(255, 16);
     }
     take(0, 1);
-    assert_eq!(last("board 0 0\ndigest\n"), format!("digest {:016x}", h));
+    let set = "set-mask 7 15 3\nset-alternatives 7 0 258\n";
+    assert_eq!(last(&format!("board 0 0\n{}digest\n", set)), format!("digest {:016x}", h));
 }

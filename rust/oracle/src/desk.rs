@@ -21,12 +21,18 @@ pub struct Lent<'a> {
     pub list: &'a [u16],
 }
 
-/// Answer of options left; a refusal comes "with numbers 0".
+/// Answer of options left, and of alternatives; a refusal comes "with numbers 0".
 #[derive(Clone, Copy, Debug, Default, PartialEq, Eq)]
 pub struct Left {
     pub refusal: u16,
     pub mask: u16,
     pub count: u32,
+}
+
+impl Left {
+    fn of(mask: u16) -> Left {
+        Left { refusal: 0, mask, count: mask.count_ones() }
+    }
 }
 
 /// Answer of turns; a refusal comes with numbers 0 and "no seat at work reported".
@@ -145,9 +151,7 @@ impl Desk {
         let catalogue = self.ready_checks(board, lent, seat)?;
         within(&catalogue, feature)?;
         let record = &mut self.seats[seat as usize];
-        if record.choices[feature as usize] == NONE {
-            return Err(38);
-        }
+        has_choice(record, feature)?;
         record.choices[feature as usize] = NONE;
         self.post(board, &catalogue, seat);
         Ok(())
@@ -155,10 +159,8 @@ impl Desk {
 
     /// "All three empty the masks, fill the share with 255 and post a job at pair (0, 0)."
     fn post(&mut self, board: &mut [u8], catalogue: &Catalogue, seat: u32) {
-        let record = &mut self.seats[seat as usize];
-        record.masks = [0; 16];
         fill(share_of(board, seat as usize));
-        search::start_pair(catalogue, record, 0, 0);
+        search::post(catalogue, &mut self.seats[seat as usize]);
     }
 
     /// "the mask of one feature and how many bits are set in it"
@@ -168,10 +170,20 @@ impl Desk {
             .and_then(|catalogue| within(&catalogue, feature));
         match checked {
             Err(refusal) => Left { refusal, ..Left::default() },
-            Ok(()) => {
-                let mask = self.seats[seat as usize].masks[feature as usize];
-                Left { refusal: 0, mask, count: mask.count_ones() }
-            }
+            Ok(()) => Left::of(self.seats[seat as usize].masks[feature as usize]),
+        }
+    }
+
+    /// R-6: "A new call answers the mask and its count." "38 when the feature has no choice, after
+    /// 34".
+    pub fn alternatives(&self, board: &[u8], lent: Lent, seat: u32, feature: u32) -> Left {
+        let checked = self
+            .ready_checks(board, lent, seat)
+            .and_then(|catalogue| within(&catalogue, feature))
+            .and_then(|()| has_choice(&self.seats[seat as usize], feature));
+        match checked {
+            Err(refusal) => Left { refusal, ..Left::default() },
+            Ok(()) => Left::of(self.seats[seat as usize].alternatives[feature as usize]),
         }
     }
 
@@ -242,6 +254,14 @@ impl Desk {
 fn within(catalogue: &Catalogue, feature: u32) -> Result<(), u16> {
     if feature as usize >= catalogue.features() {
         return Err(34);
+    }
+    Ok(())
+}
+
+/// 38: "feature has no choice".
+fn has_choice(record: &Record, feature: u32) -> Result<(), u16> {
+    if record.choices[feature as usize] == NONE {
+        return Err(38);
     }
     Ok(())
 }

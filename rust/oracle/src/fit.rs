@@ -3,7 +3,8 @@
 use crate::catalogue::{Catalogue, FEATURES};
 use crate::record::{Record, State, NONE};
 
-/// The clauses of number 20 in the paper's order. Only the count of each tells them apart.
+/// The clauses of number 20 in the paper's order, R-6's after them. Only the count of each tells
+/// them apart.
 #[derive(Clone, Copy, Debug, PartialEq, Eq)]
 pub enum Clause {
     Next,
@@ -20,9 +21,11 @@ pub enum Clause {
     TrialNotAtWork,
     ClosedChoice,
     ClosedMask,
+    Alternative,
+    AlternativeWithoutChoice,
 }
 
-pub const CLAUSES: [(Clause, &str); 14] = [
+pub const CLAUSES: [(Clause, &str); 16] = [
     (Clause::Next, "next above 7"),
     (Clause::Choice, "a choice that is no option"),
     (Clause::ChoiceOfMissing, "a choice for a missing feature"),
@@ -37,6 +40,8 @@ pub const CLAUSES: [(Clause, &str); 14] = [
     (Clause::TrialNotAtWork, "a trial entry of a seat not at work"),
     (Clause::ClosedChoice, "a closed seat with a choice"),
     (Clause::ClosedMask, "a closed seat with a mask bit"),
+    (Clause::Alternative, "an alternative not below the size"),
+    (Clause::AlternativeWithoutChoice, "an alternative at a feature with no choice"),
 ];
 
 /// The first clause met, if any, by the desk's next and its seats; all eight are looked at.
@@ -104,6 +109,19 @@ fn misfit_of_seat(record: &Record, catalogue: &Catalogue) -> Option<Clause> {
         }
         if record.masks.iter().any(|&mask| mask != 0) {
             return Some(Clause::ClosedMask);
+        }
+    }
+    // "number 20 also for such a bit not below the size or at a feature with no choice". A
+    // missing feature has none by now, nor has a closed seat; that the option in force has its bit
+    // is not asked.
+    for feature in 0..FEATURES {
+        let alternatives = record.alternatives[feature];
+        if record.choices[feature] == NONE {
+            if alternatives != 0 {
+                return Some(Clause::AlternativeWithoutChoice);
+            }
+        } else if u32::from(alternatives) >> size(feature) != 0 {
+            return Some(Clause::Alternative);
         }
     }
     None

@@ -37,7 +37,7 @@ pub fn list_seat(desk: &Desk, board: &[u8], lent: Lent, seat: u32, out: &mut Vec
         say(out, &format!("seat {} is ready", seat));
         for feature in 0..lent.sizes.len() as u32 {
             let left = desk.options(board, lent, seat, feature);
-            let mut text = words::left(feature, left.mask, left.count);
+            let mut text = words::mask_and_count(feature, "left", left.mask, left.count);
             if left.mask != 0 {
                 let least = left.mask.trailing_zeros();
                 let (_, bytes) = desk.example(board, lent, seat, feature, least);
@@ -45,7 +45,9 @@ pub fn list_seat(desk: &Desk, board: &[u8], lent: Lent, seat: u32, out: &mut Vec
                 text.push_str(&format!("; with {}:{}", least, words::entries(shown)));
             }
             if desk.seats[seat as usize].choices[feature as usize] != NONE {
-                text.push_str("; chosen");
+                let alternatives = desk.alternatives(board, lent, seat, feature);
+                text.push_str("; chosen; alternatives:");
+                text.push_str(&words::bits(alternatives.mask));
             }
             say(out, &text);
         }

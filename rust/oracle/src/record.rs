@@ -17,18 +17,31 @@ pub enum State {
 
 /// "16 choices (255 = none), 16 masks of options left (bit a for option a), and 16 bytes of trial
 /// build." "At work, trial entries before j are the options placed and entries from j on are 255."
+/// R-6: "The record gains a mask for each feature, empty where no choice is in force."
 #[derive(Clone, Debug, PartialEq, Eq)]
 pub struct Record {
     pub state: State,
     pub choices: [u8; 16],
     pub masks: [u16; 16],
+    pub alternatives: [u16; 16],
     pub trial: [u8; 16],
 }
 
 impl Record {
     /// "A closed seat has no choices, empty masks and a share full of 255."
     pub fn closed() -> Record {
-        Record { state: State::Closed, choices: [NONE; 16], masks: [0; 16], trial: [NONE; 16] }
+        Record {
+            state: State::Closed,
+            choices: [NONE; 16],
+            masks: [0; 16],
+            alternatives: [0; 16],
+            trial: [NONE; 16],
+        }
+    }
+
+    /// Has the feature a choice other than this option?
+    pub fn chosen_otherwise(&self, feature: usize, option: u8) -> bool {
+        self.choices[feature] != NONE && self.choices[feature] != option
     }
 
     pub fn at_work(&self) -> bool {

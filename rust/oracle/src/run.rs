@@ -1,5 +1,5 @@
 //! Watches a run — "opened together and handed only from call to call, with one catalogue
-//! throughout" — and checks demands 2 and 3 at each seat's readiness, apart from the search.
+//! throughout" — and checks demands 2 and 3, with R-6, at each seat's readiness, apart from the search.
 
 use crate::builds;
 use crate::catalogue::{self, Catalogue, FEATURES};

@@ -91,7 +91,7 @@ impl Session {
         match word {
             "open" | "trolley" | "desk" | "digest" | "help" | "quit" => n.is_empty(),
             "enter" | "leave" | "list" => within(n, &[ANY]),
-            "relax" | "options" => within(n, &[ANY, ANY]),
+            "relax" | "options" | "alternatives" => within(n, &[ANY, ANY]),
             "choose" | "example" => within(n, &[ANY, ANY, ANY]),
             "turns" => within(n, &[65_535]),
             "sizes" => n.len() <= 64 && n.iter().all(|&size| size <= 255),
@@ -105,7 +105,7 @@ impl Session {
             "set-closed" | "set-ready" | "seat" | "share" => within(n, &[7]),
             "set-work" => within(n, &[7, 255, 255, 255, 255]),
             "set-choice" | "set-trial" => within(n, &[7, 15, 255]),
-            "set-mask" => within(n, &[7, 15, 65_535]),
+            "set-mask" | "set-alternatives" => within(n, &[7, 15, 65_535]),
             _ => false,
         }
     }
@@ -169,7 +169,13 @@ impl Session {
             "options" => {
                 let Left { refusal, mask, count } = desk.options(board, lent, n[0], n[1]);
                 let beside = (mask, count) != (0, 0);
-                let text = words::left(n[1], mask, count);
+                let text = words::mask_and_count(n[1], "left", mask, count);
+                (refusal, if refusal != 0 { words::beside(beside, text) } else { text })
+            }
+            "alternatives" => {
+                let Left { refusal, mask, count } = desk.alternatives(board, lent, n[0], n[1]);
+                let beside = (mask, count) != (0, 0);
+                let text = words::mask_and_count(n[1], "alternatives", mask, count);
                 (refusal, if refusal != 0 { words::beside(beside, text) } else { text })
             }
             "example" => {
@@ -192,6 +198,9 @@ impl Session {
             }
         };
         self.tally.refusals[usize::from(refusal)] += 1;
+        if word == "alternatives" {
+            self.tally.alternatives[usize::from(refusal)] += 1;
+        }
         if refusal == 0 {
             if matches!(word, "enter" | "choose" | "relax") {
                 self.run.posted(n[0]);
@@ -206,7 +215,7 @@ impl Session {
         let mut text = words::refusal(refusal, Spoken::of(&self.board, lent, n));
         // Nothing but 0, "no seat at work" and an example of length 0 may stand beside a refusal;
         // were there anything, it would show here.
-        if matches!(word, "options" | "example" | "turns") {
+        if matches!(word, "options" | "alternatives" | "example" | "turns") {
             text.push_str(&answer);
         }
         text
@@ -260,6 +269,7 @@ impl Session {
                     }
                     "set-choice" => record.choices[n[1] as usize] = byte(2),
                     "set-mask" => record.masks[n[1] as usize] = n[2] as u16,
+                    "set-alternatives" => record.alternatives[n[1] as usize] = n[2] as u16,
                     _ => record.trial[n[1] as usize] = byte(2),
                 }
             }

@@ -1,11 +1,12 @@
-//! One step of the written search, rules 1 to 5, on whatever record number 20 lets through.
+//! One step of the written search, rules 2 to 5, on whatever record number 20 lets through. By R-6
+//! "step rule 1 goes": every pair is searched.
 
 use crate::catalogue::Catalogue;
 use crate::record::{Record, State, EXAMPLE, NONE};
 use std::ops::Range;
 
 /// "For one pair the candidates at feature j are: a alone if j = i; else the choice in force alone;
-/// else all options, rising."
+/// else all options, rising." So at a feature i chosen otherwise "that one choice" is "set aside".
 fn candidates(catalogue: &Catalogue, record: &Record, i: u8, a: u8, j: u8) -> Range<u8> {
     let choice = record.choices[usize::from(j)];
     if j == i {
@@ -28,9 +29,22 @@ fn greater(catalogue: &Catalogue, record: &Record, i: u8, a: u8, j: u8, option: 
     candidates(catalogue, record, i, a, j).find(|&candidate| candidate > option)
 }
 
+/// Posts a job: the masks are emptied, and the job starts "at pair (0, 0)". Of the alternatives "the
+/// option in force always counts; its bit is set at posting".
+pub fn post(catalogue: &Catalogue, record: &mut Record) {
+    record.masks = [0; 16];
+    record.alternatives = [0; 16];
+    for (alternatives, &choice) in record.alternatives.iter_mut().zip(&record.choices) {
+        if choice != NONE {
+            *alternatives = 1 << choice;
+        }
+    }
+    start_pair(catalogue, record, 0, 0);
+}
+
 /// "Each pair starts at depth 0 with the first candidate there." "In other states the trial is all
 /// 255", and so it is at depth 0.
-pub fn start_pair(catalogue: &Catalogue, record: &mut Record, i: u8, a: u8) {
+fn start_pair(catalogue: &Catalogue, record: &mut Record, i: u8, a: u8) {
     record.trial = [NONE; 16];
     let v = first(catalogue, record, i, a, 0);
     record.state = State::AtWork { i, a, j: 0, v };
@@ -57,15 +71,8 @@ pub fn step(catalogue: &Catalogue, record: &mut Record, share: &mut [u8]) {
     };
     let (feature, depth) = (usize::from(i), usize::from(j));
 
-    // 1. "If feature i has a choice other than a, the pair ends without an example."
-    let choice = record.choices[feature];
-    if choice != NONE && choice != a {
-        end_pair(catalogue, record, i, a);
-        return;
-    }
-
-    // 2. "Otherwise v is placed at j and tested against each rule whose highest-numbered feature
-    //    is j." Placed even if it is no candidate.
+    // 2. "v is placed at j and tested against each rule whose highest-numbered feature is j." Placed
+    //    even if it is no candidate.
     let mut build = record.trial;
     build[depth] = v;
     let passed = catalogue.ending_at[depth]
@@ -73,10 +80,15 @@ pub fn step(catalogue: &Catalogue, record: &mut Record, share: &mut [u8]) {
         .all(|&rule| catalogue.rules[rule].satisfied_by(&build));
 
     if passed && depth + 1 == catalogue.features() {
-        // 3. "the build is written as the example, bit a is set in mask i, the pair ends."
-        let place = feature * 256 + usize::from(a) * EXAMPLE;
-        share[place..place + EXAMPLE].copy_from_slice(&build);
-        record.masks[feature] |= 1 << a;
+        if record.chosen_otherwise(feature, a) {
+            // R-6: "A pair at a feature chosen otherwise … sets a bit in this mask, gets no example".
+            record.alternatives[feature] |= 1 << a;
+        } else {
+            // 3. "the build is written as the example, bit a is set in mask i, the pair ends."
+            let place = feature * 256 + usize::from(a) * EXAMPLE;
+            share[place..place + EXAMPLE].copy_from_slice(&build);
+            record.masks[feature] |= 1 << a;
+        }
         end_pair(catalogue, record, i, a);
     } else if passed {
         // 4. "depth j+1, its first candidate next."

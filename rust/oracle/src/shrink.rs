@@ -37,6 +37,7 @@ pub fn shrink(
         let before = shrinker.best.lines.clone();
         shrinker.remove_lines();
         shrinker.forget_seats();
+        shrinker.forget_choices();
         shrinker.lower_depths();
         shrinker.remove_windows();
         shrinker.remove_numbers();
@@ -107,6 +108,24 @@ impl Shrinker<'_> {
             lines.retain(|line| field_of(line).map_or(true, |(_, numbers)| numbers[0] != seat));
             if lines.len() < self.best.lines.len() {
                 self.take_if_different(lines);
+            }
+        }
+    }
+
+    /// A choice with its alternatives: without it these are number 20.
+    fn forget_choices(&mut self) {
+        for seat in 0..8 {
+            for feature in 0..16 {
+                let mut lines = self.best.lines.clone();
+                lines.retain(|line| match field_of(line) {
+                    Some((word, numbers)) if word == "set-choice" || word == "set-alternatives" => {
+                        !numbers.starts_with(&[seat, feature])
+                    }
+                    _ => true,
+                });
+                if lines.len() < self.best.lines.len() {
+                    self.take_if_different(lines);
+                }
             }
         }
     }

@@ -8,6 +8,8 @@ pub struct Tally {
     pub calls: [u64; CALLS.len()],
     /// By refusal number; 0 counts what was accepted.
     pub refusals: [u64; 40],
+    /// The same for the calls of alternatives alone.
+    pub alternatives: [u64; 40],
     pub clauses: [u64; CLAUSES.len()],
     pub steps: u64,
     /// Seats that became ready in a run, and those of them compared with brute force.
@@ -20,6 +22,7 @@ impl Tally {
         Tally {
             calls: [0; CALLS.len()],
             refusals: [0; 40],
+            alternatives: [0; 40],
             clauses: [0; CLAUSES.len()],
             steps: 0,
             ready: 0,
@@ -34,6 +37,7 @@ impl Tally {
     pub fn add(&mut self, other: &Tally) {
         add_each(&mut self.calls, &other.calls);
         add_each(&mut self.refusals, &other.refusals);
+        add_each(&mut self.alternatives, &other.alternatives);
         add_each(&mut self.clauses, &other.clauses);
         self.steps += other.steps;
         self.ready += other.ready;
@@ -51,6 +55,10 @@ impl Tally {
                 text.push_str(&format!(" {}×{}", number, self.refusals[number]));
             }
         }
+        text.push_str(&format!("\nalternatives: accepted {}; refusals:", self.alternatives[0]));
+        for number in OF_ALTERNATIVES {
+            text.push_str(&format!(" {}×{}", number, self.alternatives[number]));
+        }
         text.push_str("\nclauses of 20:");
         for ((_, name), count) in CLAUSES.iter().zip(&self.clauses) {
             text.push_str(&format!("\n  {}: {}", name, count));
@@ -66,6 +74,10 @@ impl Tally {
 /// Every number of the table, so that one never reached shows as ×0.
 pub const REFUSALS: [usize; 20] =
     [1, 10, 11, 12, 13, 14, 15, 16, 17, 18, 20, 30, 31, 32, 33, 34, 35, 36, 37, 38];
+
+/// Those that the call of alternatives can give: 32 is for enter only, 38 comes after 34.
+pub const OF_ALTERNATIVES: [usize; 16] =
+    [1, 10, 11, 12, 13, 14, 15, 16, 17, 18, 20, 30, 31, 33, 34, 38];
 
 fn add_each(sum: &mut [u64], other: &[u64]) {
     for (sum, other) in sum.iter_mut().zip(other) {

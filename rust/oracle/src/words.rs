@@ -4,13 +4,14 @@ use crate::desk::{Desk, Lent};
 use crate::record::{Record, State, NONE};
 
 /// Each command's form, "just as the first column has it"; the first word is the command.
-pub const FORMS: [&str; 28] = [
+pub const FORMS: [&str; 30] = [
     "open",
     "enter SEAT",
     "leave SEAT",
     "choose SEAT FEATURE OPTION",
     "relax SEAT FEATURE",
     "options SEAT FEATURE",
+    "alternatives SEAT FEATURE",
     "example SEAT FEATURE OPTION",
     "turns TURNS",
     "trolley",
@@ -25,6 +26,7 @@ pub const FORMS: [&str; 28] = [
     "set-work SEAT FEATURE OPTION DEPTH NEXT",
     "set-choice SEAT FEATURE OPTION",
     "set-mask SEAT FEATURE MASK",
+    "set-alternatives SEAT FEATURE MASK",
     "set-trial SEAT FEATURE OPTION",
     "seat SEAT",
     "desk",
@@ -36,8 +38,8 @@ pub const FORMS: [&str; 28] = [
 ];
 
 /// The desk's calls, those that are counted.
-pub const CALLS: [&str; 8] =
-    ["open", "enter", "leave", "choose", "relax", "options", "example", "turns"];
+pub const CALLS: [&str; 9] =
+    ["open", "enter", "leave", "choose", "relax", "options", "alternatives", "example", "turns"];
 
 pub fn form_of(word: &str) -> Option<&'static str> {
     FORMS
@@ -118,17 +120,15 @@ pub fn entries(bytes: &[u8]) -> String {
     text
 }
 
-pub fn left(feature: u32, mask: u16, count: u32) -> String {
-    let mut text = format!("feature {}: {} left", feature, count);
-    if mask != 0 {
-        text.push(':');
-    }
-    for option in 0..16 {
-        if mask & (1 << option) != 0 {
-            text.push_str(&format!(" {}", option));
-        }
-    }
-    text
+/// "the bits of the mask, rising", a blank before each.
+pub fn bits(mask: u16) -> String {
+    (0..16).filter(|option| mask & (1 << option) != 0).map(|option| format!(" {}", option)).collect()
+}
+
+/// The answer of `options` (`what` is "left") and of `alternatives`.
+pub fn mask_and_count(feature: u32, what: &str, mask: u16, count: u32) -> String {
+    let colon = if mask != 0 { ":" } else { "" };
+    format!("feature {}: {} {}{}{}", feature, count, what, colon, bits(mask))
 }
 
 pub fn turned(made: u32, at_work: bool) -> String {
@@ -153,13 +153,14 @@ pub fn seat(number: usize, record: &Record) -> String {
             format!("at work at feature {} option {} depth {} next {}", i, a, j, v)
         }
     };
-    let masks: String = record.masks.iter().map(|mask| format!(" {}", mask)).collect();
+    let numbers = |masks: &[u16; 16]| masks.iter().map(|mask| format!(" {}", mask)).collect::<String>();
     format!(
-        "seat {}: {}; choices{}; masks{}; trial{}",
+        "seat {}: {}; choices{}; masks{}; alternatives{}; trial{}",
         number,
         state,
         entries(&record.choices),
-        masks,
+        numbers(&record.masks),
+        numbers(&record.alternatives),
         entries(&record.trial)
     )
 }
@@ -179,7 +180,7 @@ pub fn at_work(desk: &Desk) -> String {
 
 /// "Over h, 64 bits, at first 0, for each byte b, all modulo 2^64".
 pub fn digest(desk: &Desk, board: &[u8]) -> u64 {
-    let mut bytes: Vec<u8> = Vec::with_capacity(board.len() + 600);
+    let mut bytes: Vec<u8> = Vec::with_capacity(board.len() + 900);
     for record in &desk.seats {
         match record.state {
             State::Closed => bytes.extend([0, 0, 0, 0, 0]),
@@ -187,7 +188,7 @@ pub fn digest(desk: &Desk, board: &[u8]) -> u64 {
             State::AtWork { i, a, j, v } => bytes.extend([2, i, a, j, v]),
         }
         bytes.extend(record.choices);
-        for mask in record.masks {
+        for mask in record.masks.iter().chain(&record.alternatives) {
             bytes.extend(mask.to_le_bytes());
         }
         bytes.extend(record.trial);

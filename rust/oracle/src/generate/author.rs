@@ -101,9 +101,14 @@ impl Author {
                 let now = &self.session.desk.seats[seat];
                 let (choice, mask) = (record.choices[feature], record.masks[feature]);
                 let (other_choice, other_mask) = (now.choices[feature] != choice, now.masks[feature] != mask);
+                let other_alternatives = now.alternatives[feature] != record.alternatives[feature];
                 let other_trial = now.trial[feature] != record.trial[feature];
                 if other_choice {
                     self.line(format!("set-choice {} {} {}", seat, feature, choice));
+                }
+                if other_alternatives {
+                    let alternatives = record.alternatives[feature];
+                    self.line(format!("set-alternatives {} {} {}", seat, feature, alternatives));
                 }
                 if other_mask {
                     self.line(format!("set-mask {} {} {}", seat, feature, mask));
@@ -135,7 +140,7 @@ impl Author {
         let feature = self.random.near(self.features());
         let known = (feature as usize).min(15);
         let option = self.random.near(self.size(known));
-        let text = match self.random.below(29) {
+        let text = match self.random.below(33) {
             0 => "open".to_string(),
             1..=4 => format!("enter {}", seat),
             5..=8 => format!("leave {}", seat),
@@ -143,6 +148,10 @@ impl Author {
             13..=16 => format!("relax {} {}", seat, feature),
             17..=20 => format!("options {} {}", seat, feature),
             21..=24 => format!("example {} {} {}", seat, feature, option),
+            25..=28 => {
+                let seat = if self.random.once_in(4) { self.random.near(SEATS) } else { seat };
+                format!("alternatives {} {}", seat, feature)
+            }
             _ => format!("turns {}", self.some_turns()),
         };
         self.call(text);
@@ -156,6 +165,23 @@ impl Author {
             return None;
         }
         Some(self.random.pick(&chosen))
+    }
+
+    /// An alternative of the seat that is not the option in force, if there is one.
+    pub fn alternative(&mut self, seat: usize) -> Option<(usize, usize)> {
+        let record = &self.session.desk.seats[seat];
+        let mut others: Vec<(usize, usize)> = Vec::new();
+        for feature in 0..16 {
+            for option in (0..16).filter(|&option| record.alternatives[feature] & (1 << option) != 0) {
+                if record.chosen_otherwise(feature, option) {
+                    others.push((feature, option.into()));
+                }
+            }
+        }
+        if others.is_empty() {
+            return None;
+        }
+        Some(self.random.pick(&others))
     }
 }
 

@@ -26,7 +26,11 @@ pub fn at_limits(author: &mut Author) {
     let wanted = fitting_desk(author);
     for _ in 0..author.random.between(5, 20) {
         author.dress(&wanted);
-        let seat = author.random.below(SEATS);
+        let mut seat = author.random.below(SEATS);
+        let chosen: Vec<usize> = (0..SEATS).filter(|&seat| has_choice(&wanted.seats[seat])).collect();
+        if !chosen.is_empty() && author.random.once_in(2) {
+            seat = author.random.pick(&chosen);
+        }
         for _ in 0..author.random.pick(&[1, 1, 1, 2]) {
             edge(author, seat);
         }
@@ -46,8 +50,18 @@ fn begin(author: &mut Author) {
     author.board();
 }
 
-/// Bytes of the board that no search would have written there.
+/// Bytes of the board that no search would have written there; some at the pair that a seat is at.
 fn dirty_bytes(author: &mut Author) {
+    for seat in 0..SEATS {
+        if let State::AtWork { i, a, .. } = author.session.desk.seats[seat].state {
+            if author.random.once_in(4) {
+                let place = seat * 4096 + usize::from(i) * 256 + usize::from(a) * 16;
+                let place = place + author.random.below(author.features());
+                let byte = author.random.pick(&[0, 1, 2, 254]);
+                author.line(format!("set-byte {} {}", place, byte));
+            }
+        }
+    }
     for _ in 0..author.random.pick(&[0, 0, 0, 1, 5]) {
         let feature = author.random.below(author.features() + 1).min(15);
         let option = author.random.below(author.size(feature));
@@ -69,7 +83,8 @@ fn fitting_desk(author: &mut Author) -> Desk {
     desk
 }
 
-/// A record that 20 lets through: any choices and masks, any place, any trial before it.
+/// A record that 20 lets through: any choices, masks and alternatives, any place, any trial before
+/// it. The option in force may lack its bit among the alternatives.
 fn fitting_record(author: &mut Author) -> Record {
     let mut record = Record::closed();
     let features = author.features();
@@ -78,7 +93,11 @@ fn fitting_record(author: &mut Author) -> Record {
     for feature in 0..features {
         let size = author.size(feature);
         if author.random.once_in(some_choices) {
-            record.choices[feature] = author.random.below(size) as u8;
+            let choice = author.random.below(size);
+            record.choices[feature] = choice as u8;
+            let (own, all) = (1 << choice, (1 << size) - 1);
+            let any = author.random.below(1 << size);
+            record.alternatives[feature] = author.random.pick(&[0, own, all, any, any | own, any & !own]) as u16;
         }
         if author.random.once_in(some_masks) {
             record.masks[feature] = author.random.below(1 << size) as u16;
@@ -86,21 +105,39 @@ fn fitting_record(author: &mut Author) -> Record {
     }
     record.state = State::Ready;
     if !author.random.once_in(4) {
-        let i = author.random.below(features);
+        let otherwise = pair_chosen_otherwise(author, &record);
+        let i = otherwise.map_or(author.random.below(features), |(i, _)| i);
         let j = if author.random.once_in(2) { features - 1 } else { author.random.below(features) };
         for entry in 0..j {
             record.trial[entry] = author.random.below(author.size(entry)) as u8;
         }
         let choice = record.choices[i];
-        let a = if choice != NONE && author.random.once_in(2) {
-            choice
-        } else {
-            author.random.below(author.size(i)) as u8
+        let a = match otherwise {
+            Some((_, a)) => a,
+            None if choice != NONE && author.random.once_in(2) => choice,
+            None => author.random.below(author.size(i)) as u8,
         };
         let v = author.random.below(author.size(j)) as u8;
         record.state = State::AtWork { i: i as u8, a, j: j as u8, v };
     }
     record
+}
+
+fn has_choice(record: &Record) -> bool {
+    record.choices.iter().any(|&choice| choice != NONE)
+}
+
+/// For half of the records with a choice that leaves another option: such a feature and option.
+fn pair_chosen_otherwise(author: &mut Author, record: &Record) -> Option<(usize, u8)> {
+    let mut pairs: Vec<(usize, u8)> = Vec::new();
+    for feature in 0..author.features() {
+        let options = 0..author.size(feature) as u8;
+        pairs.extend(options.filter(|&a| record.chosen_otherwise(feature, a)).map(|a| (feature, a)));
+    }
+    if pairs.is_empty() || author.random.once_in(2) {
+        return None;
+    }
+    Some(author.random.pick(&pairs))
 }
 
 /// Few steps at a time, so that the digest sees each.
@@ -110,8 +147,13 @@ fn next_call(author: &mut Author) {
         State::Ready if author.random.once_in(2) => {
             let feature = author.random.below(author.features());
             let option = author.random.below(author.size(feature));
-            let word = author.random.pick(&["choose", "example"]);
-            author.call(format!("{} {} {} {}", word, seat, feature, option));
+            let chosen = author.chosen(seat).unwrap_or(feature);
+            match author.random.pick(&["choose", "choose", "example", "example", "alternatives", "relax"]) {
+                word @ ("choose" | "example") => {
+                    author.call(format!("{} {} {} {}", word, seat, feature, option))
+                }
+                word => author.call(format!("{} {} {}", word, seat, chosen)),
+            }
         }
         _ if author.random.once_in(6) => author.any_call(seat),
         _ => {
@@ -127,11 +169,14 @@ fn edge(author: &mut Author, seat: usize) {
     let known = author.random.below(features);
     let size = author.size(known);
     let missing = if features < 16 { author.random.between(features, 15) } else { 15 };
+    // A feature that has a choice, where one has (a missing one may, by an earlier edge).
+    let chosen = author.chosen(seat).unwrap_or(known);
+    let size_of_chosen = author.size(chosen).max(1);
     let entry = if author.random.once_in(3) { 15 } else { author.random.below(16) };
     let (i, a, j, v) = place_of(author, seat);
     let size_of_i = author.size(i);
     let size_of_j = author.size(j);
-    let text = match author.random.below(14) {
+    let text = match author.random.below(20) {
         0 => format!("set-next {}", author.random.pick(&[0, 6, 7, 8, 9, 16, 255])),
         1 => {
             let option = author.random.pick(&[0, size - 1, size, size + 1, 16, 254, 255]);
@@ -177,6 +222,24 @@ fn edge(author: &mut Author, seat: usize) {
         }
         11 => format!("set-trial {} {} {}", seat, entry, author.random.pick(&[0, 1, 254, 255])),
         12 => format!("set-closed {}", seat),
+        13 | 14 => {
+            let size = size_of_chosen;
+            let mask = author.random.pick(&[0, (1 << size) - 1, 1 << size, 1 << (size - 1), 32_768, 65_535]);
+            format!("set-alternatives {} {} {}", seat, chosen, mask & 65_535)
+        }
+        15 | 16 => {
+            let mask = author.random.pick(&[0, 1, 1 << (size - 1), 1 << size, 32_768]);
+            format!("set-alternatives {} {} {}", seat, known, mask & 65_535)
+        }
+        17 => {
+            let mask = author.random.pick(&[0, 1, 256, 32_768, 65_535]);
+            format!("set-alternatives {} {} {}", seat, missing, mask)
+        }
+        // Its alternatives stay when the choice goes, or becomes another.
+        18 => {
+            let option = author.random.pick(&[0, size_of_chosen - 1, 255, 255]);
+            format!("set-choice {} {} {}", seat, chosen, option)
+        }
         _ => format!("set-ready {}", seat),
     };
     author.line(text);

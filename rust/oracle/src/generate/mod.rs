@@ -123,7 +123,7 @@ fn board_length(author: &mut Author) {
 mod tests {
     use super::{script, text};
     use crate::expect::transcript;
-    use crate::tally::{Tally, REFUSALS};
+    use crate::tally::{Tally, OF_ALTERNATIVES, REFUSALS};
 
     #[test]
     fn a_seed_repeats_its_script_and_the_script_its_transcript() {
@@ -143,6 +143,8 @@ mod tests {
             tally.add(&script.tally);
         }
         assert!(REFUSALS.iter().all(|&number| tally.refusals[number] > 0), "{}", tally.lines());
+        assert!(OF_ALTERNATIVES.iter().all(|&number| tally.alternatives[number] > 0), "{}", tally.lines());
+        assert!(tally.alternatives[0] > 0);
         assert!(tally.clauses.iter().all(|&count| count > 0), "{}", tally.lines());
         assert!(tally.brute_force > 0);
     }

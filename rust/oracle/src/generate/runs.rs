@@ -96,7 +96,13 @@ fn ready_call(author: &mut Author, seat: usize) {
     let features = author.features();
     let feature = author.random.below(features);
     let option = author.random.below(author.size(feature));
-    match author.random.below(20) {
+    let chosen = author.chosen(seat);
+    let kind = match author.random.below(27) {
+        // No choice yet: one is made instead.
+        20..=24 if chosen.is_none() => 0,
+        kind => kind,
+    };
+    match kind {
         0..=8 => {
             // An option that is left of a feature that has no choice, where there is one.
             let record = &author.session.desk.seats[seat];
@@ -114,12 +120,23 @@ fn ready_call(author: &mut Author, seat: usize) {
             author.call(format!("choose {} {} {}", seat, feature, option));
         }
         9..=12 => {
-            let feature = author.chosen(seat).unwrap_or(feature);
+            let feature = chosen.unwrap_or(feature);
             author.call(format!("relax {} {}", seat, feature));
         }
         13 | 14 => author.call(format!("options {} {}", seat, feature)),
         15..=17 => author.call(format!("example {} {} {}", seat, feature, option)),
         18 => author.call(format!("leave {}", seat)),
+        19 => author.call(format!("alternatives {} {}", seat, feature)),
+        20..=24 => {
+            let feature = chosen.unwrap_or(feature);
+            author.call(format!("alternatives {} {}", seat, feature));
+        }
+        25 => {
+            // 37 and 36: an alternative has no example, and its feature has a choice.
+            let (feature, option) = author.alternative(seat).unwrap_or((feature, option));
+            let word = author.random.pick(&["example", "choose"]);
+            author.call(format!("{} {} {} {}", word, seat, feature, option));
+        }
         _ => author.call(format!("choose {} {} {}", seat, feature, option)),
     }
 }
