@@ -1,15 +1,16 @@
 -- What seats ask, on desks that no run made: a bit set over sixteen 255s, a choice beside empty masks, stale masks.
 use mathlib.Core.Path.{_≡_, refl}
-use mathlib.Core.Bool.{false}
+use mathlib.Core.Bool.{true, false}
 use mathlib.Core.List.{[], _∷_}
 use native.Mathlib.Omega.{arith}
-use lib.ListN.{replicate}
+use lib.ListN.{getD, replicate}
 use lib.Dec.{lit<}
 use Rattle.search.specs.declared.State.the-variants.{Closed, AtWork}
+use Rattle.search.specs.Bits.{hasBit}
 use Rattle.search.specs.Trolley.{trolley, single}
 use Rattle.runs.specs.declared.Asking.the-variants.{Enter, Leave, Choose, Relax, Read}
 use Rattle.runs.specs.declared.Reading.{Reading}
-use Rattle.runs.specs.declared.Reading.the-variants.{Options, Example}
+use Rattle.runs.specs.declared.Reading.the-variants.{Options, Alternatives, Example}
 use Rattle.runs.specs.Room.{Room, clinicAt}
 use Rattle.runs.specs.Call.{asks}
 use Rattle.runs.specs.Perform.{perform}
@@ -26,7 +27,7 @@ by-hand = room-of marked settled 0
 
 whole : Whole by-hand
 unfolding marked settled
-whole = whole-room marked settled 0 (refl, refl, refl) (refl, refl, refl)
+whole = whole-room marked settled 0 (refl, refl, refl, refl) (refl, refl, refl, refl)
 
 -- options and example answer what stands there: the bit, and 255s
 shows : EveryAsking → perform single (asks 0 (Read (Options 0))) by-hand .answer
@@ -45,12 +46,29 @@ reading-leaves demand = demand single by-hand whole 0 .reading-stays
 -- stale masks are shown as they stand, beside a choice that they don't keep
 whole-stale : Whole (room-of stale stale 0)
 unfolding stale
-whole-stale = whole-room stale stale 0 (refl, refl, refl) (refl, refl, refl)
+whole-stale = whole-room stale stale 0 (refl, refl, refl, refl) (refl, refl, refl, refl)
 
 shows-stale : EveryAsking → perform trolley (asks 1 (Read (Options 2))) (room-of stale stale 0) .answer
     ≡ record { number = 0; mask = 3; count = 2; bytes = []; made = 0; working = false }
 unfolding room-of stale computing
 shows-stale demand = demand trolley (room-of stale stale 0) whole-stale 1 .options 2 refl
+
+replaces-stale : EveryAsking → perform trolley (asks 1 (Read (Alternatives 2))) (room-of stale stale 0) .answer
+    ≡ record { number = 0; mask = 2; count = 1; bytes = []; made = 0; working = false }
+unfolding room-of stale computing
+replaces-stale demand = demand trolley (room-of stale stale 0) whole-stale 1 .alternatives 2 refl
+
+-- relaxing drops the alternative that no search set, and posts none; choosing once more posts the option in force
+drops-stale : EveryAsking → hasBit (getD (seatIn (perform trolley (asks 1 (Relax 2)) (room-of stale stale 0) .room) 1 .alternatives) 2 0) 1 ≡ true → ⊥
+unfolding room-of stale computing
+drops-stale demand set =
+    let alone = demand trolley (room-of stale stale 0) whole-stale 1 .relaxed 2 refl .in-force-alone 2 1 .0 set in
+    omega (arith, alone .0)
+
+posts-stale : EveryAsking → hasBit (getD (seatIn (perform trolley (asks 1 (Choose 0 2)) (room-of stale stale 0) .room) 1 .alternatives) 0 0) 2 ≡ true
+unfolding room-of stale computing
+posts-stale demand =
+    demand trolley (room-of stale stale 0) whole-stale 1 .chosen 0 2 refl .in-force-alone 0 2 .1 (refl, λ e. omega (arith, e))
 
 -- a seat that enters is at work at pair (0, 0), depth 0
 enters : EveryAsking → seatIn (perform single (asks 2 Enter) by-hand .room) 2 .state
@@ -103,6 +121,16 @@ reading-changes-nothing = reading-leaves proved-every-asking
 pub stale-shown : perform trolley (asks 1 (Read (Options 2))) (room-of stale stale 0) .answer
     ≡ record { number = 0; mask = 3; count = 2; bytes = []; made = 0; working = false }
 stale-shown = shows-stale proved-every-asking
+
+pub stale-alternative : perform trolley (asks 1 (Read (Alternatives 2))) (room-of stale stale 0) .answer
+    ≡ record { number = 0; mask = 2; count = 1; bytes = []; made = 0; working = false }
+stale-alternative = replaces-stale proved-every-asking
+
+pub alternative-dropped : hasBit (getD (seatIn (perform trolley (asks 1 (Relax 2)) (room-of stale stale 0) .room) 1 .alternatives) 2 0) 1 ≡ true → ⊥
+alternative-dropped = drops-stale proved-every-asking
+
+pub in-force-posted : hasBit (getD (seatIn (perform trolley (asks 1 (Choose 0 2)) (room-of stale stale 0) .room) 1 .alternatives) 0 0) 2 ≡ true
+in-force-posted = posts-stale proved-every-asking
 
 pub entered-at-work : seatIn (perform single (asks 2 Enter) by-hand .room) 2 .state
     ≡ AtWork (record { feature = 0; option = 0; depth = 0; next = 0 })

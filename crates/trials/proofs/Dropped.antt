@@ -31,7 +31,7 @@ abbrev after-relax : Room
 after-relax = perform trolley (asks 0 (Relax 2)) (moment trolley board chosen) .room
 
 -- the seat is ready and has the choice, so that it can be dropped; then none is in force
-has-choice : getD (seatIn (moment trolley board chosen) 0 .choices) 2 255 ≡ 255 → ⊥
+pub has-choice : getD (seatIn (moment trolley board chosen) 0 .choices) 2 255 ≡ 255 → ⊥
 has-choice e = let none : _≡_ {A = ℕ} 0 255 = rw in-force at e in omega (arith, none)
 
 relaxes : perform trolley (asks 0 (Relax 2)) (moment trolley board chosen) .answer .number ≡ 0

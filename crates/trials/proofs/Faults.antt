@@ -64,7 +64,7 @@ module _ (openings : EveryOpening) (demand : Refusals) (catalogue : Catalogue) (
   none-before r l (Sentence.no-such-option named h) = omega (arith, l, at-most-18)
   none-before r l (Sentence.has-a-choice s) = omega (arith, l, at-most-18)
   none-before r l (Sentence.not-left named s) = omega (arith, l, at-most-18)
-  none-before r l (Sentence.no-choice s) = omega (arith, l, at-most-18)
+  none-before r l (Sentence.no-choice named s) = omega (arith, l, at-most-18)
 
   pub call-refused : (call : Call) → perform catalogue call (record { desk = freshDesk; board = on }) .answer .number
       ≡ suc n

@@ -1,7 +1,6 @@
 -- Rule 5 on the trolley: the next greater candidate, back to an earlier depth, and none left.
 use Prim.Native.Nat.{ℕ, zero, suc, _≤_, _<_}
 use mathlib.Core.Path.{_≡_, refl}
-use mathlib.Core.Logic.{inl}
 use mathlib.Core.Bool.{false≢true}
 use mathlib.Core.List.{List, _∷_}
 use native.Mathlib.Omega.{arith}
@@ -12,7 +11,7 @@ use Rattle.search.specs.declared.Seat.{Seat}
 use Rattle.search.specs.declared.State.the-variants.{AtWork}
 use Rattle.search.specs.Clinic.{closedSeat, nothing16}
 use Rattle.search.specs.Step.{step}
-use Rattle.search.specs.FiveRules.{Candidate, Greater, Passed}
+use Rattle.search.specs.StepRules.{Candidate, Greater, Passed}
 use Rattle.search.specs.Trolley.{trolley, lastChosen}
 use Rattle.runs.specs.Call.{turns}
 use Rattle.runs.specs.Perform.{perform}
@@ -41,14 +40,15 @@ fails-00 passed = false≢true (first-of passed refl (also (lit≤ tt) (also (li
 
 next-greater : EveryTurns → (step trolley (before broken) .seat .state ≡ AtWork (at-place 0 0 1 1))
     × (step trolley (before broken) .share ≡ before broken .share)
+    × (step trolley (before broken) .seat .alternatives ≡ replicate 16 0)
 unfolding room-of trolley
 next-greater demand =
-    let rules = by-rules demand trolley broken (refl, refl, refl) passes-broken (at-place 0 0 1 0) refl in
+    let rules = by-rules demand trolley broken (refl, refl, refl, refl) passes-broken (at-place 0 0 1 0) refl in
     let one : Candidate (trolley .sizes) nothing16 0 0 1 1 =
     Candidate.unchosen (λ (e : _≡_ {A = ℕ} 1 0). omega (arith, e)) refl (lit< tt) in
-    let goes = rules .otherwise (inl refl) .next-or-back fails-00 1 1 (lit≤ tt) ((lit< tt, one), λ (w : ℕ) g. g .0)
+    let goes = rules .tries .next-or-back fails-00 1 1 (lit≤ tt) ((lit< tt, one), λ (w : ℕ) g. g .0)
     (λ (e u : ℕ) l l₂ g. omega (arith, l, l₂)) in
-    (goes .at-place, goes .no-example .1)
+    (goes .at-place, goes .nothing-written .share-stays, goes .nothing-written .alternatives-stay)
 
 -- ---- 0, 1 and 0 are placed for pair (2, 0) and rule B is broken: nothing greater at depth 2, 2 at depth 1
 
@@ -76,10 +76,10 @@ back : EveryTurns → (step trolley (before dead-end) .seat .state ≡ AtWork (a
     × (step trolley (before dead-end) .seat .trial ≡ 0 ∷ replicate 15 255)
 unfolding room-of trolley
 back demand =
-    let rules = by-rules demand trolley dead-end (refl, refl, refl) passes-dead-end (at-place 2 0 2 0) refl in
+    let rules = by-rules demand trolley dead-end (refl, refl, refl, refl) passes-dead-end (at-place 2 0 2 0) refl in
     let two : Candidate (trolley .sizes) nothing16 2 0 1 2 =
     Candidate.unchosen (λ (e : _≡_ {A = ℕ} 1 2). omega (arith, e)) refl (lit< tt) in
-    let goes = rules .otherwise (inl refl) .next-or-back fails-010 1 2 (lit≤ tt) ((lit< tt, two), λ (w : ℕ) g. g .0)
+    let goes = rules .tries .next-or-back fails-010 1 2 (lit≤ tt) ((lit< tt, two), λ (w : ℕ) g. g .0)
     (none-at-2 (trolley .sizes)) in
     (goes .at-place, goes .kept-before)
 
@@ -112,14 +112,15 @@ ends : EveryTurns → (step trolley (before exhausted) .seat .state ≡ AtWork (
     × (step trolley (before exhausted) .seat .masks ≡ replicate 16 0)
 unfolding room-of trolley
 ends demand =
-    let rules = by-rules demand trolley exhausted (refl, refl, refl) passes-exhausted (at-place 0 0 1 2) refl in
-    let over = rules .otherwise (inl refl) .none-greater fails-02 none-left in
-    (to-next-option (lit< tt) (over .0 .next-pair), over .1 .0)
+    let rules = by-rules demand trolley exhausted (refl, refl, refl, refl) passes-exhausted (at-place 0 0 1 2) refl in
+    let over = rules .tries .none-greater fails-02 none-left in
+    (to-next-option (lit< tt) (over .0 .next-pair), over .1 .masks-stay)
 
 -- ---- and so
 
 pub next-greater-tried : (step trolley (before broken) .seat .state ≡ AtWork (at-place 0 0 1 1))
     × (step trolley (before broken) .share ≡ before broken .share)
+    × (step trolley (before broken) .seat .alternatives ≡ replicate 16 0)
 next-greater-tried = next-greater proved-every-turns
 
 pub back-to-depth-1 : (step trolley (before dead-end) .seat .state ≡ AtWork (at-place 2 0 1 2))

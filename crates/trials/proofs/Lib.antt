@@ -5,6 +5,7 @@ pub mod Runs
 pub mod Shown
 pub mod Waits
 pub mod Dropped
+pub mod Replaced
 pub mod Stands
 pub mod Desks
 pub mod AnyDesk

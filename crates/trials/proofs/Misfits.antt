@@ -46,7 +46,7 @@ earlier long r l (Sentence.no-such-feature named h) = omega arith
 earlier long r l (Sentence.no-such-option named h) = omega arith
 earlier long r l (Sentence.has-a-choice s) = omega arith
 earlier long r l (Sentence.not-left named s) = omega arith
-earlier long r l (Sentence.no-choice s) = omega arith
+earlier long r l (Sentence.no-choice named s) = omega arith
 
 -- a desk that doesn't fit: 20 for every call
 gives-20 : Refusals → (seat : Seat) (next : ℕ) → DeskMisfit trolley (room-of seat closedSeat next .desk)
@@ -62,7 +62,8 @@ unfolding room-of
 misfit-20 demand seat misfit = gives-20 demand seat 0 (DeskMisfit.a-seat 0 (lit< tt) misfit)
 
 abbrev seat-of : State → List ℕ → List ℕ → List ℕ → Seat
-seat-of state choices masks trial = record { state = state; choices = choices; masks = masks; trial = trial }
+seat-of state choices masks trial =
+    record { state = state; choices = choices; masks = masks; trial = trial; alternatives = noneLeft }
 
 abbrev work : ℕ → ℕ → ℕ → ℕ → State
 work i a j v = AtWork (at-place i a j v)
@@ -102,6 +103,19 @@ masked-beyond = seat-of Ready nothing16 (0 ∷ 0 ∷ 0 ∷ 1 ∷ replicate 12 0)
 bit-beyond : Misfit trolley masked-beyond
 unfolding trolley
 bit-beyond = Misfit.mask-bit 3 0 (lit< tt) refl (λ (l : 3 < 3). absurd (omega (arith, l)))
+
+-- alternatives: bit 2 for feature 2, which has two options and a choice; a bit for feature 0, which has no choice, in a ready
+-- and in a closed seat
+abbrev replaced : State → List ℕ → List ℕ → Seat
+replaced state choices alternatives =
+    record { state = state; choices = choices; masks = noneLeft; trial = nothing16; alternatives = alternatives }
+
+bad-alternative : Misfit trolley (replaced Ready (255 ∷ 255 ∷ 0 ∷ replicate 13 255) (0 ∷ 0 ∷ 4 ∷ replicate 13 0))
+unfolding trolley
+bad-alternative = Misfit.alternative 2 2 (lit< tt) refl (lit≤ tt)
+
+unchosen-alternative : (state : State) → Misfit trolley (replaced state nothing16 (1 ∷ replicate 15 0))
+unchosen-alternative state = Misfit.alternative-unchosen 0 0 (lit< tt) refl refl
 
 -- places: feature 3, depth 3, option 3 of feature 0, option 2 next at depth 2
 bad-feature : Misfit trolley (seat-of (work 3 0 0 0) nothing16 noneLeft nothing16)
@@ -152,6 +166,14 @@ choices-misfit =
 pub bits-misfit : Gives20 masked × Gives20 masked-beyond
 bits-misfit =
     (misfit-20 proved-refusals masked bad-bit (turns 5), misfit-20 proved-refusals masked-beyond bit-beyond (turns 5))
+
+pub alternatives-misfit : Gives20 (replaced Ready (255 ∷ 255 ∷ 0 ∷ replicate 13 255) (0 ∷ 0 ∷ 4 ∷ replicate 13 0))
+    × Gives20 (replaced Ready nothing16 (1 ∷ replicate 15 0)) × Gives20 (replaced Closed nothing16 (1 ∷ replicate 15 0))
+alternatives-misfit = (
+  misfit-20 proved-refusals _ bad-alternative (turns 5),
+  misfit-20 proved-refusals _ (unchosen-alternative Ready) (turns 5),
+  misfit-20 proved-refusals _ (unchosen-alternative Closed) (turns 5),
+)
 
 pub places-misfit : Gives20 (seat-of (work 3 0 0 0) nothing16 noneLeft nothing16)
     × Gives20 (seat-of (work 0 0 3 0) nothing16 noneLeft (0 ∷ 1 ∷ 1 ∷ replicate 13 255))

@@ -1,7 +1,7 @@
 -- Towards "no earlier sentence holds": where turns are accepted, no sentence of board, catalogue or desk does; and what each
 -- sentence from 30 on tells where it holds.
 use Prim.Native.Nat.{ℕ, suc, _≤_, _<_}
-use mathlib.Core.Path.{_≡_, refl, subst, sym, ap}
+use mathlib.Core.Path.{_≡_, refl, subst, sym, ap, _∙_}
 use mathlib.Core.Bool.{Bool, true, false, false≢true}
 use mathlib.Core.List.{List}
 use lib.ListN.{length, getD}
@@ -14,11 +14,12 @@ use Rattle.search.specs.declared.State.the-variants.{Closed, AtWork}
 use Rattle.search.specs.Bits.{hasBit}
 use Rattle.runs.specs.declared.Asking.{Asking}
 use Rattle.runs.specs.declared.Asking.the-variants.{Enter, Leave, Choose, Relax, Read}
-use Rattle.runs.specs.declared.Reading.the-variants.{Example}
+use Rattle.runs.specs.declared.Reading.the-variants.{Options, Alternatives, Example}
 use Rattle.runs.specs.Room.{Room, seatAt}
 use Rattle.runs.specs.Call.{Call, asks, turns}
 use Rattle.runs.specs.Perform.{perform}
-use Rattle.runs.specs.PaperTable.{FirstOf, OpenSentence, NamesOption, NamesFeature, Sentence}
+use Rattle.runs.specs.PaperTable.{FirstOf, OpenSentence, NamesOption, NamesChoice, NamesFeature, Sentence}
+use Rattle.runs.proofs.AskedSentences.{isEnter}
 use Rattle.promises.specs.Refusals.{Refusals}
 
 -- none below n, and not n
@@ -47,7 +48,7 @@ positive (Sentence.no-such-feature named l) = omega arith
 positive (Sentence.no-such-option named l) = omega arith
 positive (Sentence.has-a-choice s) = omega arith
 positive (Sentence.not-left named s) = omega arith
-positive (Sentence.no-choice s) = omega arith
+positive (Sentence.no-choice named s) = omega arith
 
 module _ (refusals : Refusals) (catalogue : Catalogue) (room : Room) (passes : perform catalogue (turns 0) room .answer .number ≡ 0) where
   of-turns : FirstOf (Sentence catalogue room (turns 0)) 0 → (r : ℕ) → Sentence catalogue room (turns 0) r → ⊥
@@ -68,7 +69,7 @@ module _ (refusals : Refusals) (catalogue : Catalogue) (room : Room) (passes : p
   below-30 r l (Sentence.no-such-option named h) = omega arith
   below-30 r l (Sentence.has-a-choice s) = omega arith
   below-30 r l (Sentence.not-left named s) = omega arith
-  below-30 r l (Sentence.no-choice s) = omega arith
+  below-30 r l (Sentence.no-choice named s) = omega arith
 
   -- what the sentences of a seat's asking tell
   pub at-30 : {c : ℕ} {asking : Asking} → Sentence catalogue room (asks c asking) 30 → 7 < c
@@ -123,26 +124,6 @@ choose-feature (NamesFeature.with-option NamesOption.choose) = refl
 pub example-feature : {i a f : ℕ} → NamesFeature (Read (Example i a)) f → f ≡ i
 example-feature (NamesFeature.with-option NamesOption.example) = refl
 
-pub relax-feature : {i f : ℕ} → NamesFeature (Relax i) f → f ≡ i
-relax-feature NamesFeature.relax = refl
-
-abbrev isRelax : Asking → Bool
-isRelax Enter = false
-isRelax Leave = false
-isRelax (Choose i a) = false
-isRelax (Relax i) = true
-isRelax (Read reading) = false
-
-not-relax : {asking : Asking} {f b : ℕ} → NamesOption asking f b → isRelax asking ≡ false
-not-relax NamesOption.choose = refl
-not-relax NamesOption.example = refl
-
-pub relax-no-option : {i f b : ℕ} → NamesOption (Relax i) f b → ⊥
-relax-no-option named = false≢true (sym (not-relax named))
-
-pub relax-no-choose : {i f b : ℕ} → Relax i ≡ Choose f b → ⊥
-relax-no-choose e = false≢true (sym (ap isRelax e))
-
 abbrev isRead : Asking → Bool
 isRead Enter = false
 isRead Leave = false
@@ -152,3 +133,35 @@ isRead (Read reading) = true
 
 pub example-no-choose : {i a f b : ℕ} → Read (Example i a) ≡ Choose f b → ⊥
 example-no-choose e = false≢true (sym (ap isRead e))
+
+-- those that are for a feature with a choice name no option, and are not choose
+pub choice-feature : {asking : Asking} {i f : ℕ} → NamesChoice asking i → NamesFeature asking f → f ≡ i
+choice-feature NamesChoice.relax (NamesFeature.with-choice NamesChoice.relax) = refl
+choice-feature NamesChoice.alternatives (NamesFeature.with-choice NamesChoice.alternatives) = refl
+
+abbrev namesOption : Asking → Bool
+namesOption Enter = false
+namesOption Leave = false
+namesOption (Choose i a) = true
+namesOption (Relax i) = false
+namesOption (Read (Options i)) = false
+namesOption (Read (Alternatives i)) = false
+namesOption (Read (Example i a)) = true
+
+choice-names-none : {asking : Asking} {i : ℕ} → NamesChoice asking i → namesOption asking ≡ false
+choice-names-none NamesChoice.relax = refl
+choice-names-none NamesChoice.alternatives = refl
+
+names-option : {asking : Asking} {f b : ℕ} → NamesOption asking f b → namesOption asking ≡ true
+names-option NamesOption.choose = refl
+names-option NamesOption.example = refl
+
+pub choice-no-option : {asking : Asking} {i f b : ℕ} → NamesChoice asking i → NamesOption asking f b → ⊥
+choice-no-option chosen named = false≢true (sym (choice-names-none chosen) ∙ names-option named)
+
+pub choice-no-choose : {asking : Asking} {i f b : ℕ} → NamesChoice asking i → asking ≡ Choose f b → ⊥
+choice-no-choose chosen e = false≢true (sym (choice-names-none chosen) ∙ ap namesOption e)
+
+pub choice-no-enter : {asking : Asking} {i : ℕ} → NamesChoice asking i → isEnter asking ≡ false
+choice-no-enter NamesChoice.relax = refl
+choice-no-enter NamesChoice.alternatives = refl

@@ -21,10 +21,12 @@ use Rattle.runs.specs.declared.Reading.the-variants.{Example}
 use Rattle.runs.specs.Room.{Room, seatAt}
 use Rattle.runs.specs.Call.{asks, turns}
 use Rattle.runs.specs.Perform.{perform}
-use Rattle.runs.specs.PaperTable.{FirstOf, OpenSentence, NamesOption, NamesFeature, Sentence}
+use Rattle.runs.specs.PaperTable.{FirstOf, OpenSentence, NamesOption, NamesChoice, NamesFeature, Sentence}
 use Rattle.runs.proofs.AskedSentences.{isEnter, isLeave, not-enter, not-leave}
 use Rattle.promises.specs.Refusals.{Refusals}
-use Rattle.trials.proofs.NoEarlier.{also-not, below-30, at-30, at-31, at-32, at-33, at-34, at-35, at-36, at-37, choose-names, choose-feature, example-names, example-feature, relax-feature, relax-no-option, relax-no-choose, example-no-choose}
+use Rattle.trials.proofs.NoEarlier.{also-not, below-30, at-30, at-31, at-32, at-33, at-34, at-35, at-36, at-37}
+use Rattle.trials.proofs.NoEarlier.{choose-names, choose-feature, example-names, example-feature, example-no-choose}
+use Rattle.trials.proofs.NoEarlier.{choice-feature, choice-no-option, choice-no-choose, choice-no-enter}
 
 -- sizes of the smallest catalogue: one feature, of one option
 one : length (single .sizes) ≡ 1
@@ -45,7 +47,7 @@ late (OpenSentence.fault {r} met) =
 names-no-feature : {asking : Asking} {i : ℕ} → NamesFeature asking i → asking ≡ Enter → ⊥
 names-no-feature (NamesFeature.with-option NamesOption.choose) e = false≢true (ap isEnter e)
 names-no-feature (NamesFeature.with-option NamesOption.example) e = false≢true (ap isEnter e)
-names-no-feature NamesFeature.relax e = false≢true (ap isEnter e)
+names-no-feature (NamesFeature.with-choice chosen) e = false≢true (sym (choice-no-enter chosen) ∙ ap isEnter e)
 names-no-feature NamesFeature.options e = false≢true (ap isEnter e)
 
 module _ (refusals : Refusals) (room : Room) (passes : perform single (turns 0) room .answer .number ≡ 0) (c : ℕ) (below : c < 8) where
@@ -70,7 +72,7 @@ module _ (refusals : Refusals) (room : Room) (passes : perform single (turns 0) 
       names-no-feature (NamesFeature.with-option NamesOption.choose) is-enter
   nothing-against r is-enter closed (Sentence.not-left named s) =
       names-no-feature (NamesFeature.with-option named) is-enter
-  nothing-against r is-enter closed (Sentence.no-choice s) = names-no-feature NamesFeature.relax is-enter
+  nothing-against r is-enter closed (Sentence.no-choice named s) = names-no-feature (NamesFeature.with-choice named) is-enter
 
   pub gives-0 : seatAt (room .desk) c .state ≡ Closed → perform single (asks c Enter) room .answer .number ≡ 0
   gives-0 closed =
@@ -157,13 +159,13 @@ module _ (refusals : Refusals) (room : Room) (passes : perform single (turns 0) 
             let size : sizeOf single i ≡ 1 = rw (example-names named .0) one-option in
             omega (arith, example-names named .1, l, size)
 
-    pub gives-38 : getD (seatAt (room .desk) c .choices) 0 255 ≡ 255
-        → perform single (asks c (Relax 0)) room .answer .number ≡ 38
-    gives-38 unchosen =
-        refusals .by-the-paper single (asks c (Relax 0)) room 38 .1
-        (FirstOf.first-sentence (Sentence.no-choice unchosen)
-        (also-not 37 (also-not 36 (also-not 35 (also-not 34 (to-34 refl)
-        (λ s. let named = at-34 refusals single room passes s in omega (arith, relax-feature (named .1), named .2, one)))
-        (λ s. relax-no-option (at-35 refusals single room passes s .2)))
-        (λ s. relax-no-choose (at-36 refusals single room passes s .2)))
-        (λ s. relax-no-option (at-37 refusals single room passes s .2))))
+    pub gives-38 : (asking : Asking) → NamesChoice asking 0 → getD (seatAt (room .desk) c .choices) 0 255 ≡ 255
+        → perform single (asks c asking) room .answer .number ≡ 38
+    gives-38 asking names unchosen =
+        refusals .by-the-paper single (asks c asking) room 38 .1
+        (FirstOf.first-sentence (Sentence.no-choice names unchosen)
+        (also-not 37 (also-not 36 (also-not 35 (also-not 34 (to-34 (choice-no-enter names))
+        (λ s. let named = at-34 refusals single room passes s in omega (arith, choice-feature names (named .1), named .2, one)))
+        (λ s. choice-no-option names (at-35 refusals single room passes s .2)))
+        (λ s. choice-no-choose names (at-36 refusals single room passes s .2)))
+        (λ s. choice-no-option names (at-37 refusals single room passes s .2))))

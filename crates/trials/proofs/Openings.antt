@@ -61,7 +61,13 @@ module _ (demand : EveryOpening) where
 
   -- a refused open, too, hands back a desk of closed seats
   closed : opening trolley [] .room .desk ≡ record {
-    seats = replicate 8 (record { state = Closed; choices = replicate 16 255; masks = replicate 16 0; trial = replicate 16 255 });
+    seats = replicate 8 (record {
+    state = Closed;
+    choices = replicate 16 255;
+    masks = replicate 16 0;
+    trial = replicate 16 255;
+    alternatives = replicate 16 0;
+  });
     next = 0;
   }
   closed = demand trolley [] .all-closed
@@ -93,7 +99,13 @@ pub board-filled : opening one-rule board .room .board ≡ replicate 32768 255
 board-filled = filled proved-every-opening
 
 pub seats-closed : opening trolley [] .room .desk ≡ record {
-  seats = replicate 8 (record { state = Closed; choices = replicate 16 255; masks = replicate 16 0; trial = replicate 16 255 });
+  seats = replicate 8 (record {
+    state = Closed;
+    choices = replicate 16 255;
+    masks = replicate 16 0;
+    trial = replicate 16 255;
+    alternatives = replicate 16 0;
+  });
   next = 0;
 }
 seats-closed = closed proved-every-opening

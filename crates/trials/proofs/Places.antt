@@ -1,4 +1,4 @@
--- A seat of the trolley at a place of the written search, and what the five rules' own words tell there.
+-- A seat of the trolley at a place of the written search, and what the rules' own words tell there.
 use Prim.Native.Nat.{ℕ, _+_, _<_}
 use mathlib.Core.Path.{_≡_, refl, sym, ap, _∙_}
 use mathlib.Core.List.{List}
@@ -12,7 +12,7 @@ use Rattle.search.specs.declared.State.{State}
 use Rattle.search.specs.declared.State.the-variants.{Ready, AtWork}
 use Rattle.search.specs.Clinic.{Clinic, closedSeat}
 use Rattle.search.specs.Step.{step}
-use Rattle.search.specs.FiveRules.{Candidate, NextPair, FiveRules}
+use Rattle.search.specs.StepRules.{Candidate, NextPair, StepRules}
 use Rattle.runs.specs.Room.{clinicAt}
 use Rattle.runs.specs.Call.{turns}
 use Rattle.runs.specs.Perform.{perform}
@@ -23,7 +23,8 @@ abbrev pub at-place : ℕ → ℕ → ℕ → ℕ → Place
 at-place i a j v = record { feature = i; option = a; depth = j; next = v }
 
 abbrev pub searching : Place → List ℕ → List ℕ → Seat
-searching p choices trial = record { state = AtWork p; choices = choices; masks = replicate 16 0; trial = trial }
+searching p choices trial =
+    record { state = AtWork p; choices = choices; masks = replicate 16 0; trial = trial; alternatives = replicate 16 0 }
 
 -- the clinic of seat 0 on a desk where it stands there
 abbrev pub before : Seat → Clinic
@@ -31,10 +32,10 @@ before seat = clinicAt (room-of seat closedSeat 0) 0
 
 pub by-rules : EveryTurns → (catalogue : Catalogue) (seat : Seat) → Sixteen seat
     → perform catalogue (turns 0) (room-of seat closedSeat 0) .answer .number ≡ 0 → (p : Place) → seat .state ≡ AtWork p
-    → FiveRules catalogue (p .feature) (p .option) (p .depth) (p .next) (before seat) (step catalogue (before seat))
+    → StepRules catalogue (p .feature) (p .option) (p .depth) (p .next) (before seat) (step catalogue (before seat))
 unfolding room-of
 by-rules demand catalogue seat sixteen passes p is-there =
-    demand catalogue (room-of seat closedSeat 0) (whole-room seat closedSeat 0 sixteen (refl, refl, refl)) passes
+    demand catalogue (room-of seat closedSeat 0) (whole-room seat closedSeat 0 sixteen (refl, refl, refl, refl)) passes
     .each-step 0 (lit< tt) p is-there
 
 -- ---- candidates

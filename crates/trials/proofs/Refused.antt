@@ -11,11 +11,11 @@ use Rattle.search.specs.Bits.{hasBit}
 use Rattle.search.specs.Look.{isClosed, isAtWork}
 use Rattle.search.specs.Trolley.{single}
 use Rattle.runs.specs.declared.Asking.the-variants.{Enter, Leave, Choose, Relax, Read}
-use Rattle.runs.specs.declared.Reading.the-variants.{Options, Example}
+use Rattle.runs.specs.declared.Reading.the-variants.{Options, Alternatives, Example}
 use Rattle.runs.specs.Room.{Room}
 use Rattle.runs.specs.Call.{Call, asks, turns, refused}
 use Rattle.runs.specs.Perform.{perform}
-use Rattle.runs.specs.PaperTable.{FirstOf, NamesFeature, NamesOption, Sentence}
+use Rattle.runs.specs.PaperTable.{FirstOf, NamesFeature, NamesChoice, NamesOption, Sentence}
 use Rattle.runs.proofs.Computing.{computing}
 use Rattle.promises.specs.Moment.{moment, seatIn}
 use Rattle.promises.specs.Refusals.{Refusals}
@@ -122,8 +122,13 @@ module _ (demand : Refusals) where
 
   relaxed-34 : perform single (asks 0 (Relax 5)) is-ready .answer .number ≡ 34
   relaxed-34 =
-      gives-34 demand is-ready (passes ready-single) 0 (lit< tt) is-ready-single (Relax 5) 5 refl NamesFeature.relax
-      (rw one-feature (lit≤ tt))
+      gives-34 demand is-ready (passes ready-single) 0 (lit< tt) is-ready-single (Relax 5) 5 refl
+      (NamesFeature.with-choice NamesChoice.relax) (rw one-feature (lit≤ tt))
+
+  replacing-34 : perform single (asks 0 (Read (Alternatives 1))) is-ready .answer .number ≡ 34
+  replacing-34 =
+      gives-34 demand is-ready (passes ready-single) 0 (lit< tt) is-ready-single (Read (Alternatives 1)) 1 refl
+      (NamesFeature.with-choice NamesChoice.alternatives) (rw one-feature (lit≤ tt))
 
   chosen-34 : perform single (asks 0 (Choose 1 0)) is-ready .answer .number ≡ 34
   chosen-34 =
@@ -140,7 +145,11 @@ module _ (demand : Refusals) where
   by-37 = gives-37 demand by-hand passes-by-hand 1 (lit< tt) settled-ready hidden
 
   by-38 : perform single (asks 0 (Relax 0)) is-ready .answer .number ≡ 38
-  by-38 = gives-38 demand is-ready (passes ready-single) 0 (lit< tt) is-ready-single unchosen
+  by-38 = gives-38 demand is-ready (passes ready-single) 0 (lit< tt) is-ready-single (Relax 0) NamesChoice.relax unchosen
+
+  replacing-38 : perform single (asks 0 (Read (Alternatives 0))) is-ready .answer .number ≡ 38
+  replacing-38 =
+      gives-38 demand is-ready (passes ready-single) 0 (lit< tt) is-ready-single (Read (Alternatives 0)) NamesChoice.alternatives unchosen
 
 -- ---- and so
 
@@ -163,7 +172,8 @@ at-work-33 = (by-33 proved-refusals, from-33 proved-refusals)
 pub no-feature-34 : (perform single (asks 0 (Read (Options 1))) is-ready .answer .number ≡ 34)
     × (perform single (asks 0 (Relax 5)) is-ready .answer .number ≡ 34)
     × (perform single (asks 0 (Choose 1 0)) is-ready .answer .number ≡ 34)
-no-feature-34 = (by-34 proved-refusals, relaxed-34 proved-refusals, chosen-34 proved-refusals)
+    × (perform single (asks 0 (Read (Alternatives 1))) is-ready .answer .number ≡ 34)
+no-feature-34 = (by-34 proved-refusals, relaxed-34 proved-refusals, chosen-34 proved-refusals, replacing-34 proved-refusals)
 
 pub no-option-35 : perform single (asks 0 (Choose 0 1)) is-ready .answer .number ≡ 35
 no-option-35 = by-35 proved-refusals
@@ -174,5 +184,6 @@ has-choice-36 = by-36 proved-refusals
 pub not-left-37 : perform single (asks 1 (Read (Example 0 0))) by-hand .answer .number ≡ 37
 not-left-37 = by-37 proved-refusals
 
-pub no-choice-38 : perform single (asks 0 (Relax 0)) is-ready .answer .number ≡ 38
-no-choice-38 = by-38 proved-refusals
+pub no-choice-38 : (perform single (asks 0 (Relax 0)) is-ready .answer .number ≡ 38)
+    × (perform single (asks 0 (Read (Alternatives 0))) is-ready .answer .number ≡ 38)
+no-choice-38 = (by-38 proved-refusals, replacing-38 proved-refusals)

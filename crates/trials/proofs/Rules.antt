@@ -1,5 +1,5 @@
--- The five rules, each at a place of the written search on the trolley; rule 3 also on the smallest catalogue, where it
--- ends the job. What follows is a fact about the record after the step.
+-- The rules of a step, each at a place of the written search on the trolley; rule 3 also where the feature is chosen
+-- otherwise, and on the smallest catalogue, where it ends the job. What follows is a fact about the record after the step.
 use Prim.Native.Nat.{ℕ, _≤_}
 use mathlib.Core.Path.{_≡_, refl, ap, _∙_}
 use mathlib.Core.Logic.{inl, inr, ⊎-elim}
@@ -14,7 +14,7 @@ use Rattle.search.specs.declared.State.the-variants.{Ready, AtWork}
 use Rattle.search.specs.Bits.{hasBit}
 use Rattle.search.specs.Clinic.{Clinic, closedSeat, nothing16}
 use Rattle.search.specs.Step.{step}
-use Rattle.search.specs.FiveRules.{Passed}
+use Rattle.search.specs.StepRules.{Passed}
 use Rattle.search.specs.Trolley.{trolley, single, lastChosen}
 use Rattle.runs.specs.Call.{turns}
 use Rattle.runs.specs.Perform.{perform}
@@ -23,7 +23,7 @@ use Rattle.promises.specs.Moment.{seatIn}
 use Rattle.promises.specs.Turns.{FirstAtWork, EveryTurns}
 use Rattle.promises.proofs.Turns.{every-turns as proved-every-turns}
 use Rattle.trials.proofs.Desks.{room-of, whole-room}
-use Rattle.trials.proofs.Places.{at-place, searching, before, by-rules, chosen-alone, to-next-option, to-feature-1, to-ready}
+use Rattle.trials.proofs.Places.{at-place, searching, before, by-rules, chosen-alone, to-feature-1, to-ready}
 
 -- what holds of every rule holds of the first and of the second
 pub first-of : {A : Type 0} {P : A → Type 0} {x : A} {xs : List A} → Every P (x ∷ xs) → P x
@@ -32,27 +32,42 @@ first-of (also p ps) = p
 pub rest-of : {A : Type 0} {P : A → Type 0} {x : A} {xs : List A} → Every P (x ∷ xs) → Every P xs
 rest-of (also p ps) = ps
 
--- ---- rule 1: option 0 of feature 0 is chosen, and the pair is (0, 1)
+-- ---- rule 3, chosen otherwise: option 0 of feature 2 is chosen, and for the pair (2, 1) the build 011 is complete
 
-abbrev chosen-0 : Seat
-chosen-0 = searching (at-place 0 1 0 1) (0 ∷ replicate 15 255) nothing16
+abbrev other-chosen : Seat
+other-chosen = searching (at-place 2 1 2 1) lastChosen (0 ∷ 1 ∷ replicate 14 255)
 
-passes-1 : perform trolley (turns 0) (room-of chosen-0 closedSeat 0) .answer .number ≡ 0
+abbrev build-011 : List ℕ
+build-011 = 0 ∷ 1 ∷ 1 ∷ replicate 13 255
+
+passes-otherwise : perform trolley (turns 0) (room-of other-chosen closedSeat 0) .answer .number ≡ 0
 unfolding room-of computing
-passes-1 = refl
+passes-otherwise = refl
 
--- the pair ends without an example: the next is (0, 2), and the masks stay
-rule-1 : EveryTurns → (step trolley (before chosen-0) .seat .state ≡ AtWork (at-place 0 2 0 2))
-    × (step trolley (before chosen-0) .seat .trial ≡ nothing16)
-    × (step trolley (before chosen-0) .seat .masks ≡ replicate 16 0)
+passed-011 : Passed trolley 2 build-011
+unfolding computing
+passed-011 = also (λ m e. absurd (false≢true m)) (also (λ m e. refl) none)
+
+-- bit 1 is set among the alternatives of feature 2, no option is shown as left, nothing is written, and the seat is ready
+found-otherwise : EveryTurns → (step trolley (before other-chosen) .seat .state ≡ Ready)
+    × (hasBit (getD (step trolley (before other-chosen) .seat .alternatives) 2 0) 1 ≡ true)
+    × (step trolley (before other-chosen) .seat .masks ≡ replicate 16 0)
+    × (step trolley (before other-chosen) .share ≡ before other-chosen .share)
+    × (step trolley (before other-chosen) .seat .trial ≡ nothing16)
 unfolding room-of trolley
-rule-1 demand =
-    let rules = by-rules demand trolley chosen-0 (refl, refl, refl) passes-1 (at-place 0 1 0 1) refl in
-    let ends = rules .chosen-otherwise (λ (e : 0 ≡ 255). omega (arith, e)) (λ (e : 0 ≡ 1). omega (arith, e)) in
-    (to-next-option (lit< tt) (ends .0 .next-pair), ends .0 .nothing-placed, ends .1 .0)
+found-otherwise demand =
+    let rules = by-rules demand trolley other-chosen (refl, refl, refl, refl) passes-otherwise (at-place 2 1 2 1) refl in
+    let found = rules .tries .build-found passed-011 refl in
+    let shown = found .1 .chosen-otherwise (λ (e : 0 ≡ 255). omega (arith, e)) (λ (e : 0 ≡ 1). omega (arith, e)) in (
+      to-ready refl refl (found .0 .next-pair),
+      shown .bit-set 2 1 .1 (inr (refl, refl)),
+      shown .masks-stay,
+      shown .share-stays,
+      found .0 .nothing-placed,
+    )
 
 -- the turn gives seat 0 this step
-first-there : FirstAtWork (room-of chosen-0 closedSeat 0) 0
+first-there : FirstAtWork (room-of other-chosen closedSeat 0) 0
 unfolding room-of
 first-there = record {
   seats-on = 0;
@@ -62,12 +77,11 @@ first-there = record {
   none-before = λ (n : ℕ) l. absurd (omega (arith, l));
 }
 
-by-a-turn : EveryTurns → seatIn (perform trolley (turns 1) (room-of chosen-0 closedSeat 0) .room) 0 .state
-    ≡ AtWork (at-place 0 2 0 2)
+by-a-turn : EveryTurns → seatIn (perform trolley (turns 1) (room-of other-chosen closedSeat 0) .room) 0 .state ≡ Ready
 by-a-turn demand =
-    let whole = whole-room chosen-0 closedSeat 0 (refl, refl, refl) (refl, refl, refl) in
-    let turned = demand trolley (room-of chosen-0 closedSeat 0) whole passes-1 in
-    ap (λ (clinic : Clinic). clinic .seat .state) (turned .one-turn .gives-one-step 0 first-there) ∙ rule-1 demand .0
+    let whole = whole-room other-chosen closedSeat 0 (refl, refl, refl, refl) (refl, refl, refl, refl) in
+    let turned = demand trolley (room-of other-chosen closedSeat 0) whole passes-otherwise in
+    ap (λ (clinic : Clinic). clinic .seat .state) (turned .one-turn .gives-one-step 0 first-there) ∙ found-otherwise demand .0
 
 -- ---- rule 3: 211 is complete, the last option of feature 0 has its example
 
@@ -88,25 +102,27 @@ passed-211 = also (λ m e. absurd (false≢true m)) (also (λ m e. refl) none)
 rule-3 : EveryTurns → (step trolley (before complete) .seat .state ≡ AtWork (at-place 1 0 0 0))
     × (hasBit (getD (step trolley (before complete) .seat .masks) 0 0) 2 ≡ true)
     × (step trolley (before complete) .share ≡ put (before complete .share) 32 build-211)
+    × (step trolley (before complete) .seat .alternatives ≡ replicate 16 0)
 unfolding room-of trolley
 rule-3 demand =
-    let rules = by-rules demand trolley complete (refl, refl, refl) passes-3 (at-place 0 2 2 1) refl in
-    let found = rules .otherwise (inl refl) .build-found passed-211 refl in (
+    let rules = by-rules demand trolley complete (refl, refl, refl, refl) passes-3 (at-place 0 2 2 1) refl in
+    let found = rules .tries .build-found passed-211 refl in (
       to-feature-1 refl (lit< tt) refl (found .0 .next-pair),
-      found .1 .bit-set 0 2 .1 (inr (refl, refl)),
-      found .1 .bytes-written,
+      found .1 .otherwise (inl refl) .bit-set 0 2 .1 (inr (refl, refl)),
+      found .1 .otherwise (inl refl) .bytes-written,
+      found .1 .otherwise (inl refl) .alternatives-stay,
     )
 
 -- no other bit is set by it
 no-other-bit : EveryTurns → hasBit (getD (step trolley (before complete) .seat .masks) 0 0) 1 ≡ true → ⊥
 unfolding room-of trolley
 no-other-bit demand shown =
-    let rules = by-rules demand trolley complete (refl, refl, refl) passes-3 (at-place 0 2 2 1) refl in
-    let found = rules .otherwise (inl refl) .build-found passed-211 refl in
+    let rules = by-rules demand trolley complete (refl, refl, refl, refl) passes-3 (at-place 0 2 2 1) refl in
+    let found = rules .tries .build-found passed-211 refl in
     ⊎-elim (λ set-before. false≢true set-before) (λ (same : (0 ≡ 0) × (1 ≡ 2)). omega (arith, same .1))
-    (found .1 .bit-set 0 1 .0 shown)
+    (found .1 .otherwise (inl refl) .bit-set 0 1 .0 shown)
 
--- on the smallest catalogue the one pair is the last: ready. Its option is chosen, so that rule 1 doesn't end it
+-- on the smallest catalogue the one pair is the last: ready. Its option is chosen, and so it is left, with an example
 abbrev only : Seat
 only = searching (at-place 0 0 0 0) (0 ∷ replicate 15 255) nothing16
 
@@ -118,11 +134,13 @@ passed-only : Passed single 0 (set nothing16 0 0)
 unfolding computing
 passed-only = none
 
-last-of-all : EveryTurns → step single (before only) .seat .state ≡ Ready
+last-of-all : EveryTurns → (step single (before only) .seat .state ≡ Ready)
+    × (hasBit (getD (step single (before only) .seat .masks) 0 0) 0 ≡ true)
 unfolding room-of single
 last-of-all demand =
-    let rules = by-rules demand single only (refl, refl, refl) passes-only (at-place 0 0 0 0) refl in
-    to-ready refl refl (rules .otherwise (inr refl) .build-found passed-only refl .0 .next-pair)
+    let rules = by-rules demand single only (refl, refl, refl, refl) passes-only (at-place 0 0 0 0) refl in
+    let found = rules .tries .build-found passed-only refl in
+    (to-ready refl refl (found .0 .next-pair), found .1 .otherwise (inr refl) .bit-set 0 0 .1 (inr (refl, refl)))
 
 -- ---- rule 4: 1 and 0 are placed, rule A passed, and feature 2 has a choice
 
@@ -145,31 +163,34 @@ rule-4 : EveryTurns → (step trolley (before deeper) .seat .state ≡ AtWork (a
     × (step trolley (before deeper) .seat .choices ≡ lastChosen)
 unfolding room-of trolley
 rule-4 demand =
-    let rules = by-rules demand trolley deeper (refl, refl, refl) passes-4 (at-place 0 1 1 0) refl in
-    let on = rules .otherwise (inl refl) .one-deeper passed-10 (lit< tt) in
+    let rules = by-rules demand trolley deeper (refl, refl, refl, refl) passes-4 (at-place 0 1 1 0) refl in
+    let on = rules .tries .one-deeper passed-10 (lit< tt) in
     let w : on .0 ≡ 0 = chosen-alone (on .1 .0) (λ (e : 2 ≡ 0). omega (arith, e)) (λ (e : 0 ≡ 255). omega (arith, e)) in
     (on .2 .at-place ∙ ap (λ (v : ℕ). AtWork (at-place 0 1 2 v)) w, on .2 .kept-before, rules .choices-stay)
 
 -- ---- and so
 
-pub pair-passed-over : (step trolley (before chosen-0) .seat .state ≡ AtWork (at-place 0 2 0 2))
-    × (step trolley (before chosen-0) .seat .trial ≡ nothing16)
-    × (step trolley (before chosen-0) .seat .masks ≡ replicate 16 0)
-pair-passed-over = rule-1 proved-every-turns
+pub alternative-found : (step trolley (before other-chosen) .seat .state ≡ Ready)
+    × (hasBit (getD (step trolley (before other-chosen) .seat .alternatives) 2 0) 1 ≡ true)
+    × (step trolley (before other-chosen) .seat .masks ≡ replicate 16 0)
+    × (step trolley (before other-chosen) .share ≡ before other-chosen .share)
+    × (step trolley (before other-chosen) .seat .trial ≡ nothing16)
+alternative-found = found-otherwise proved-every-turns
 
-pub turn-by-rule-1 : seatIn (perform trolley (turns 1) (room-of chosen-0 closedSeat 0) .room) 0 .state
-    ≡ AtWork (at-place 0 2 0 2)
-turn-by-rule-1 = by-a-turn proved-every-turns
+pub turn-to-ready : seatIn (perform trolley (turns 1) (room-of other-chosen closedSeat 0) .room) 0 .state ≡ Ready
+turn-to-ready = by-a-turn proved-every-turns
 
 pub build-211-found : (step trolley (before complete) .seat .state ≡ AtWork (at-place 1 0 0 0))
     × (hasBit (getD (step trolley (before complete) .seat .masks) 0 0) 2 ≡ true)
     × (step trolley (before complete) .share ≡ put (before complete .share) 32 build-211)
+    × (step trolley (before complete) .seat .alternatives ≡ replicate 16 0)
 build-211-found = rule-3 proved-every-turns
 
 pub one-bit-alone : hasBit (getD (step trolley (before complete) .seat .masks) 0 0) 1 ≡ true → ⊥
 one-bit-alone = no-other-bit proved-every-turns
 
-pub ready-at-last : step single (before only) .seat .state ≡ Ready
+pub ready-at-last : (step single (before only) .seat .state ≡ Ready)
+    × (hasBit (getD (step single (before only) .seat .masks) 0 0) 0 ≡ true)
 ready-at-last = last-of-all proved-every-turns
 
 pub one-deeper : (step trolley (before deeper) .seat .state ≡ AtWork (at-place 0 1 2 0))

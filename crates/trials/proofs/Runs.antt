@@ -33,7 +33,7 @@ is-ready = refl
 
 -- then it chooses option 0 of feature 2 (P7)
 unfoldable pub chosen : List Call
-chosen = ready ++ asks 0 (Choose 2 0) ∷ turns 40 ∷ []
+chosen = ready ++ asks 0 (Choose 2 0) ∷ turns 43 ∷ []
 
 pub is-ready-again : seatIn (moment trolley board chosen) 0 .state ≡ Ready
 unfolding board ready chosen computing moment

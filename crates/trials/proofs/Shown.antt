@@ -154,6 +154,7 @@ no-build build b = List·Memᴰ·not-nil (builds-are allUnequal nothing16 build 
 nothing : EveryMoment → (calls : List Call)
     → (seatIn (moment allUnequal board calls) 0 .masks ≡ noneLeft)
     × (shareAt (moment allUnequal board calls .board) 0 ≡ emptyShare)
+    × (seatIn (moment allUnequal board calls) 0 .alternatives ≡ noneLeft)
 nothing demand calls = demand allUnequal board calls .opened opens-unequal 0 (lit< tt) .in-a-run .none-left no-build
 
 -- ---- and so
@@ -188,4 +189,5 @@ each-shows-one = some proved-every-moment
 pub nothing-shown : (calls : List Call)
     → (seatIn (moment allUnequal board calls) 0 .masks ≡ noneLeft)
     × (shareAt (moment allUnequal board calls .board) 0 ≡ emptyShare)
+    × (seatIn (moment allUnequal board calls) 0 .alternatives ≡ noneLeft)
 nothing-shown = nothing proved-every-moment

@@ -16,7 +16,7 @@ use Rattle.search.specs.Look.{isClosed}
 use Rattle.search.specs.Clinic.{nothing16}
 use Rattle.search.specs.Trolley.{trolley, single}
 use Rattle.runs.specs.declared.Asking.the-variants.{Enter, Leave, Choose, Relax, Read}
-use Rattle.runs.specs.declared.Reading.the-variants.{Options, Example}
+use Rattle.runs.specs.declared.Reading.the-variants.{Options, Alternatives, Example}
 use Rattle.runs.specs.Call.{Call, asks, turns}
 use Rattle.runs.specs.Perform.{perform}
 use Rattle.runs.proofs.Computing.{computing}
@@ -79,6 +79,9 @@ module _ (demand : EveryMoment) where
   relaxes : IsDone single (moment single board chosen-single) (asks 0 (Relax 0))
   relaxes = at chosen-single .possible .ready ready-under-choice 0 one-feature .relax has-choice
 
+  reads-alternatives : IsDone single (moment single board chosen-single) (asks 0 (Read (Alternatives 0)))
+  reads-alternatives = at chosen-single .possible .ready ready-under-choice 0 one-feature .alternatives has-choice
+
   turns-made : (w : ℕ) → IsDone single (moment single board chosen-single) (turns w)
   turns-made = at chosen-single .possible .turning
 
@@ -134,6 +137,9 @@ seat-0-chooses = chooses proved-every-moment
 
 pub seat-0-relaxes : IsDone single (moment single board chosen-single) (asks 0 (Relax 0))
 seat-0-relaxes = relaxes proved-every-moment
+
+pub seat-0-reads-alternatives : IsDone single (moment single board chosen-single) (asks 0 (Read (Alternatives 0)))
+seat-0-reads-alternatives = reads-alternatives proved-every-moment
 
 pub turns-are-made : (w : ℕ) → IsDone single (moment single board chosen-single) (turns w)
 turns-are-made = turns-made proved-every-moment

@@ -29,9 +29,9 @@ pub sum-39 : jobSteps trolley nothing16 ≡ 39
 unfolding computing
 sum-39 = refl
 
-sum-40 : jobSteps trolley lastChosen ≡ 40
+sum-43 : jobSteps trolley lastChosen ≡ 43
 unfolding computing
-sum-40 = refl
+sum-43 = refl
 
 -- ---- eight seats at work
 
@@ -85,16 +85,16 @@ under-choice = refl
 choosing : EveryJob → Job trolley after-choice 0
 choosing jobs = jobs trolley board opens ready 0 (lit< tt) (Choose 2 0) PostsJob.choose chooses
 
-takes-40 : (jobs : EveryJob) → choosing jobs .K ≡ 40
-takes-40 jobs = choosing jobs .is-the-sum ∙ ap (jobSteps trolley) under-choice ∙ sum-40
+takes-43 : (jobs : EveryJob) → choosing jobs .K ≡ 43
+takes-43 jobs = choosing jobs .is-the-sum ∙ ap (jobSteps trolley) under-choice ∙ sum-43
 
-waits-320 : EveryJob → seatIn (afterCalls trolley (turns 320 ∷ []) after-choice) 0 .state ≡ Ready
+waits-344 : EveryJob → seatIn (afterCalls trolley (turns 344 ∷ []) after-choice) 0 .state ≡ Ready
 unfolding sum
-waits-320 jobs =
-    let few : 8 * choosing jobs .K ≤ 320 = omega (arith, takes-40 jobs) in
-    choosing jobs .ready-in-time (turns 320 ∷ []) (also refl none) few
+waits-344 jobs =
+    let few : 8 * choosing jobs .K ≤ 344 = omega (arith, takes-43 jobs) in
+    choosing jobs .ready-in-time (turns 344 ∷ []) (also refl none) few
 
--- Meanwhile seat 5 enters, and a second choice of seat 0 is refused: it was given 5 + 3 of its 40 steps.
+-- Meanwhile seat 5 enters, and a second choice of seat 0 is refused: it was given 5 + 3 of its 43 steps.
 unfoldable pub meanwhile : List Call
 meanwhile = turns 5 ∷ asks 5 Enter ∷ asks 0 (Choose 1 0) ∷ turns 6 ∷ []
 
@@ -127,13 +127,13 @@ eight-steps jobs refusals =
 not-yet : EveryJob → Refusals → seatIn (afterCalls trolley meanwhile after-choice) 0 .state ≡ Ready → ⊥
 not-yet jobs refusals is-ready =
     let all = choosing jobs .state meanwhile (quiet refusals) .ready-exactly .0 is-ready in
-    omega (arith, all, given-8, takes-40 jobs)
+    omega (arith, all, given-8, takes-43 jobs)
 
--- however many turns are asked for, it is given 40 steps at most
-no-more : EveryJob → (w : ℕ) → stepsIn trolley 0 (turns w ∷ []) after-choice ≤ 40
+-- however many turns are asked for, it is given 43 steps at most
+no-more : EveryJob → (w : ℕ) → stepsIn trolley 0 (turns w ∷ []) after-choice ≤ 43
 no-more jobs w =
     let few = choosing jobs .state (turns w ∷ []) (Quiet.not-its-own (turns w) refl Quiet.no-call) .at-most-K in
-    omega (arith, few, takes-40 jobs)
+    omega (arith, few, takes-43 jobs)
 
 -- ---- and so
 
@@ -144,8 +144,8 @@ pub last-takes-39 : (steps trolley 39 (clinicAt last-entered 7) .seat .state ≡
     × (isAtWork (steps trolley 38 (clinicAt last-entered 7) .seat .state) ≡ true)
 last-takes-39 = thirty-nine proved-every-job
 
-pub ready-after-choice : seatIn (afterCalls trolley (turns 320 ∷ []) after-choice) 0 .state ≡ Ready
-ready-after-choice = waits-320 proved-every-job
+pub ready-after-choice : seatIn (afterCalls trolley (turns 344 ∷ []) after-choice) 0 .state ≡ Ready
+ready-after-choice = waits-344 proved-every-job
 
 pub after-eight-steps : clinicAt (afterCalls trolley meanwhile after-choice) 0 ≡ steps trolley 8 (clinicAt after-choice 0)
 after-eight-steps = eight-steps proved-every-job proved-refusals
@@ -153,5 +153,5 @@ after-eight-steps = eight-steps proved-every-job proved-refusals
 pub not-ready-yet : seatIn (afterCalls trolley meanwhile after-choice) 0 .state ≡ Ready → ⊥
 not-ready-yet = not-yet proved-every-job proved-refusals
 
-pub at-most-40 : (w : ℕ) → stepsIn trolley 0 (turns w ∷ []) after-choice ≤ 40
-at-most-40 = no-more proved-every-job
+pub at-most-43 : (w : ℕ) → stepsIn trolley 0 (turns w ∷ []) after-choice ≤ 43
+at-most-43 = no-more proved-every-job
