@@ -8,12 +8,13 @@ use crate::writing::text;
 
 // A command's number is its line here, and its word the line's first. The calls stand first, then what sets catalogue
 // and board, then the desk's fields, then looking.
-pub const FORMS: [u8; 454] = *b"open
+pub const FORMS: [u8; 515] = *b"open
 enter SEAT
 leave SEAT
 choose SEAT FEATURE OPTION
 relax SEAT FEATURE
 options SEAT FEATURE
+alternatives SEAT FEATURE
 example SEAT FEATURE OPTION
 turns TURNS
 trolley
@@ -28,6 +29,7 @@ set-ready SEAT
 set-work SEAT FEATURE OPTION DEPTH NEXT
 set-choice SEAT FEATURE OPTION
 set-mask SEAT FEATURE MASK
+set-alternatives SEAT FEATURE MASK
 set-trial SEAT FEATURE OPTION
 seat SEAT
 desk
@@ -50,51 +52,55 @@ pub const RELAX: usize = 4;
 
 pub const OPTIONS: usize = 5;
 
-pub const EXAMPLE: usize = 6;
+pub const ALTERNATIVES: usize = 6;
 
-pub const TURNS: usize = 7;
+pub const EXAMPLE: usize = 7;
 
-pub const TROLLEY: usize = 8;
+pub const TURNS: usize = 8;
 
-pub const SIZES: usize = 9;
+pub const TROLLEY: usize = 9;
 
-pub const RULES: usize = 10;
+pub const SIZES: usize = 10;
 
-pub const MORE: usize = 11;
+pub const RULES: usize = 11;
 
-pub const BOARD: usize = 12;
+pub const MORE: usize = 12;
 
-pub const SET_BYTE: usize = 13;
+pub const BOARD: usize = 13;
 
-pub const SET_NEXT: usize = 14;
+pub const SET_BYTE: usize = 14;
 
-pub const SET_CLOSED: usize = 15;
+pub const SET_NEXT: usize = 15;
 
-pub const SET_READY: usize = 16;
+pub const SET_CLOSED: usize = 16;
 
-pub const SET_WORK: usize = 17;
+pub const SET_READY: usize = 17;
 
-pub const SET_CHOICE: usize = 18;
+pub const SET_WORK: usize = 18;
 
-pub const SET_MASK: usize = 19;
+pub const SET_CHOICE: usize = 19;
 
-pub const SET_TRIAL: usize = 20;
+pub const SET_MASK: usize = 20;
 
-pub const SEAT: usize = 21;
+pub const SET_ALTERNATIVES: usize = 21;
 
-pub const DESK: usize = 22;
+pub const SET_TRIAL: usize = 22;
 
-pub const SHARE: usize = 23;
+pub const SEAT: usize = 23;
 
-pub const LIST: usize = 24;
+pub const DESK: usize = 24;
 
-pub const DIGEST: usize = 25;
+pub const SHARE: usize = 25;
 
-pub const HELP: usize = 26;
+pub const LIST: usize = 26;
 
-pub const QUIT: usize = 27;
+pub const DIGEST: usize = 27;
 
-pub const NONE: usize = 28;
+pub const HELP: usize = 28;
+
+pub const QUIT: usize = 29;
+
+pub const NONE: usize = 30;
 
 // A command, and where its form stands.
 pub struct Form {
@@ -197,7 +203,9 @@ fn most(command: usize, i: usize) -> u32 {
         SIZES | SET_NEXT => 255,
         BOARD | SET_BYTE => { if i == 0 { 40000 } else { 255 } }
         SET_CLOSED | SET_READY | SEAT | SHARE => 7,
-        SET_WORK | SET_CHOICE | SET_MASK | SET_TRIAL => most_of_field(command, i),
+        SET_WORK | SET_CHOICE | SET_MASK | SET_ALTERNATIVES | SET_TRIAL => {
+            most_of_field(command, i)
+        }
         _ => 4294967295,
     }
 }
@@ -213,8 +221,8 @@ fn most_of_field(command: usize, i: usize) -> u32 {
     if i == 1 {
         return 15;
     }
-    if command == SET_MASK {
-        return 65535;
+    match command {
+        SET_MASK | SET_ALTERNATIVES => 65535,
+        _ => 255,
     }
-    255
 }

@@ -4,6 +4,7 @@ use desk::Desk;
 use desk::Left;
 use desk::Turned;
 use lines::around;
+use lines::commands::ALTERNATIVES;
 use lines::commands::CHOOSE;
 use lines::commands::ENTER;
 use lines::commands::EXAMPLE;
@@ -34,6 +35,10 @@ pub fn call(
     match command {
         OPTIONS => {
             options(desk, board, sizes, rules, asked);
+            desk
+        }
+        ALTERNATIVES => {
+            alternatives(desk, board, sizes, rules, asked);
             desk
         }
         EXAMPLE => {
@@ -112,32 +117,49 @@ fn turned(desk: Desk, board: &mut [u8], sizes: &[u8], rules: &[u16], w: u32) -> 
 
 fn options(desk: Desk, board: &[u8], sizes: &[u8], rules: &[u16], asked: Asked) {
     let left = left(desk, board, sizes, rules, asked.seat, asked.feature);
+    mask_answered(left, lengths(board, sizes, rules), asked, b" left");
+}
+
+fn alternatives(desk: Desk, board: &[u8], sizes: &[u8], rules: &[u16], asked: Asked) {
+    let others = replacing(desk, board, sizes, rules, asked);
+    mask_answered(others, lengths(board, sizes, rules), asked, b" alternatives");
+}
+
+// A refusal answers no mask; were there one, it would be seen.
+fn mask_answered(left: Left, lengths: Lengths, asked: Asked, what: &[u8]) {
     let refusal = left.number;
     if refusal != 0 {
-        refused(refusal, lengths(board, sizes, rules), asked);
+        refused(refusal, lengths, asked);
     }
     if refusal == 0 {
-        options_left(left, asked.feature);
+        options_of_feature(left, asked.feature, what);
     } else if left.mask != 0 {
-        left_beside(left, asked.feature);
+        mask_beside(left, asked.feature, what);
     } else if left.count != 0 {
-        left_beside(left, asked.feature);
+        mask_beside(left, asked.feature, what);
     }
     text(b"\n");
 }
 
-fn left_beside(left: Left, feature: u32) {
+fn mask_beside(left: Left, feature: u32, what: &[u8]) {
     text(b"; ");
-    options_left(left, feature);
+    options_of_feature(left, feature, what);
 }
 
 pub fn left(desk: Desk, board: &[u8], sizes: &[u8], rules: &[u16], c: u32, i: u32) -> Left {
     desk::options(desk, board, sizes, rules, c as usize, i as usize)
 }
 
-pub fn options_left(left: Left, feature: u32) {
+pub fn replacing(desk: Desk, board: &[u8], sizes: &[u8], rules: &[u16], asked: Asked) -> Left {
+    let c = asked.seat as usize;
+    let i = asked.feature as usize;
+    desk::alternatives(desk, board, sizes, rules, c, i)
+}
+
+// How many options of a feature, what they are, and which.
+pub fn options_of_feature(left: Left, feature: u32, what: &[u8]) {
     around(b"feature ", feature as u64, b": ");
-    around(b"", left.count as u64, b" left");
+    around(b"", left.count as u64, what);
     if left.mask != 0 {
         text(b":");
         options_of(left.mask);

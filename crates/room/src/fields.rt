@@ -1,6 +1,7 @@
 // The desk's fields, set by hand to anything.
 use desk::Desk;
 use lines::at;
+use lines::commands::SET_ALTERNATIVES;
 use lines::commands::SET_CHOICE;
 use lines::commands::SET_CLOSED;
 use lines::commands::SET_MASK;
@@ -42,7 +43,8 @@ fn with_entry(seat: Seat, command: usize, numbers: &[u32]) -> Seat {
     }
     match command {
         SET_CHOICE => changed.choices[i] = byte(numbers, 2),
-        SET_MASK => changed.masks[i] = (at(numbers, 2) % 65536) as u16,
+        SET_MASK => changed.masks[i] = mask(numbers),
+        SET_ALTERNATIVES => changed.alternatives[i] = mask(numbers),
         _ => changed.trial[i] = byte(numbers, 2),
     }
     changed
@@ -68,6 +70,10 @@ fn place(numbers: &[u32]) -> Place {
         depth: byte(numbers, 3),
         next: byte(numbers, 4),
     }
+}
+
+fn mask(numbers: &[u32]) -> u16 {
+    (at(numbers, 2) % 65536) as u16
 }
 
 fn byte(numbers: &[u32], i: usize) -> u8 {

@@ -2,7 +2,8 @@
 use crate::calls::example_bytes;
 use crate::calls::left;
 use crate::calls::lengths;
-use crate::calls::options_left;
+use crate::calls::options_of_feature;
+use crate::calls::replacing;
 use desk::Desk;
 use lines::around;
 use lines::between;
@@ -10,6 +11,7 @@ use lines::entries;
 use lines::text;
 use shown::Asked;
 use shown::named_at_work;
+use shown::options_of;
 use shown::refused;
 
 pub fn list(desk: Desk, board: &[u8], sizes: &[u8], rules: &[u16], seat: u32) {
@@ -37,7 +39,7 @@ fn features(desk: Desk, board: &[u8], sizes: &[u8], rules: &[u16], seat: u32) {
 
 fn feature(desk: Desk, board: &[u8], sizes: &[u8], rules: &[u16], asked: Asked) {
     let left = left(desk, board, sizes, rules, asked.seat, asked.feature);
-    options_left(left, asked.feature);
+    options_of_feature(left, asked.feature, b" left");
     if left.mask != 0 {
         with_least(
             desk,
@@ -49,9 +51,16 @@ fn feature(desk: Desk, board: &[u8], sizes: &[u8], rules: &[u16], asked: Asked) 
         );
     }
     if has_choice(desk, asked) {
-        text(b"; chosen");
+        chosen(desk, board, sizes, rules, asked);
     }
     text(b"\n");
+}
+
+// What could stand there instead.
+fn chosen(desk: Desk, board: &[u8], sizes: &[u8], rules: &[u16], asked: Asked) {
+    text(b"; chosen; alternatives:");
+    let others = replacing(desk, board, sizes, rules, asked);
+    options_of(others.mask);
 }
 
 // The least option left and the build beside it.

@@ -17,6 +17,7 @@ pub fn record(seat: Seat) {
     let choices = seat.choices;
     let left = seat.masks;
     let trial = seat.trial;
+    let alternatives = seat.alternatives;
     match state {
         State::Closed => text(b"closed"),
         State::Ready => text(b"ready"),
@@ -26,6 +27,8 @@ pub fn record(seat: Seat) {
     entries(&choices);
     text(b"; masks");
     masks(&left);
+    text(b"; alternatives");
+    masks(&alternatives);
     text(b"; trial");
     entries(&trial);
     text(b"\n");

@@ -7,10 +7,12 @@ pub fn of_seat(h: u64, seat: Seat) -> u64 {
     let choices = seat.choices;
     let masks = seat.masks;
     let trial = seat.trial;
+    let alternatives = seat.alternatives;
     let with_state = fold(h, &state_bytes(state));
     let with_choices = fold(with_state, &choices);
     let with_masks = fold_masks(with_choices, &masks);
-    fold(with_masks, &trial)
+    let with_alternatives = fold_masks(with_masks, &alternatives);
+    fold(with_alternatives, &trial)
 }
 
 // The state's number and the place.

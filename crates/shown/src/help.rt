@@ -1,7 +1,7 @@
 // The help text.
 use lines::text;
 
-const HELP: [u8; 2517] =
+const HELP: [u8; 2666] =
     *b"The console over one desk: eight seats, one catalogue. At the start the catalogue is the trolley. Type for example:
   enter 3          seat 3 comes in, and its search begins
   turns 1000       the desk makes up to 1000 turns; again, until no seat is at work
@@ -16,6 +16,7 @@ The desk's calls:
   choose SEAT FEATURE OPTION       a ready seat takes an option that is left
   relax SEAT FEATURE               a ready seat drops its choice
   options SEAT FEATURE             the options left of one feature
+  alternatives SEAT FEATURE        what could replace the choice of one feature
   example SEAT FEATURE OPTION      the first build with an option that is left
   turns TURNS                      so many turns, or fewer when no seat is at work
 Catalogue and board:
@@ -32,6 +33,7 @@ The desk's fields, set by hand to try what is refused:
   set-work SEAT FEATURE OPTION DEPTH NEXT   the state of a seat: at work at that place
   set-choice SEAT FEATURE OPTION   one choice; 255 is none
   set-mask SEAT FEATURE MASK       one mask of options left
+  set-alternatives SEAT FEATURE MASK        one mask of alternatives
   set-trial SEAT FEATURE OPTION    one entry of the trial build; 255 is none
 Looking:
   seat SEAT                        a seat's record
