@@ -1,8 +1,9 @@
-// What others look up in a seat's record. Of a feature or an option above 15 there is nothing: no choice, none left.
+// What others look up in a seat's record. Of a feature or an option above 15 there is nothing: no choice, none left, no
+// alternative.
 use search::Seat;
 use search::State;
 ghost use mathlib.Core.Path.{_≡_};
-ghost use Rattle.search.specs.Look.{isClosed, isAtWork, hasChoice, maskOf, isLeft};
+ghost use Rattle.search.specs.Look.{isClosed, isAtWork, hasChoice, maskOf, isLeft, alternativesOf};
 
 pub fn is_closed(seat: Seat) -> bool
     ensures { λ r. ⌜ r ≡ isClosed (seat .state) ⌝ }
@@ -57,4 +58,15 @@ pub fn is_left(seat: Seat, i: usize, a: usize) -> bool
         return false;
     }
     (mask >> a) % 2 == 1
+}
+
+// The options that could replace the choice of a feature.
+pub fn alternatives_of(seat: Seat, i: usize) -> u16
+    ensures { λ r. ⌜ r ≡ alternativesOf seat i ⌝ }
+{
+    if 15 < i {
+        return 0;
+    }
+    let alternatives = seat.alternatives;
+    alternatives[i]
 }

@@ -5,16 +5,18 @@ use runs::Asking;
 use search::Seat;
 use search::State;
 ghost use mathlib.Core.Path.{_≡_};
+ghost use mathlib.Core.List.{map};
 ghost use Prim.Native.Nat.{_<_, _≤_};
 ghost use lib.ListN.{length, getD, set};
-ghost use Rattle.search.specs.Clinic.{clinicOf, closedClinic, closedSeat};
+ghost use Rattle.search.specs.Clinic.{clinicOf, closedClinic, closedSeat, inForce};
 ghost use Rattle.search.specs.Step.{posted};
 ghost use Rattle.runs.specs.Perform.{clinicAfter};
-ghost use Rattle.seat.specs.inner.Placeable.{Placeable};
+ghost use Rattle.seat.specs.inner.Placeable.{HasBit, HaveBits, Placeable};
 
 // What an accepted asking makes of a clinic: it posts a job, it leaves, or it reads and changes nothing.
 pub fn clinic_after(asking: Asking, seat: Seat, share: &mut [u8], sizes: &[u8]) -> Seat
-    requires { ⌜ (length (now share) ≡ 4096) × (1 ≤ getD (now sizes) 0 0) × Placeable asking ⌝ }
+    requires { ⌜ (length (now share) ≡ 4096) × (1 ≤ getD (now sizes) 0 0) ⌝ }
+    requires { ⌜ Placeable asking × HaveBits (seat .choices) ⌝ }
     ensures { λ r. ⌜ clinicOf r (now (share .exit))
         ≡ clinicAfter (now (sizes .entry)) asking (clinicOf seat (now (share .entry))) ⌝ }
 {
@@ -29,7 +31,8 @@ pub fn clinic_after(asking: Asking, seat: Seat, share: &mut [u8], sizes: &[u8]) 
 
 // A job under the choices with one set, or dropped.
 fn post_with(seat: Seat, share: &mut [u8], sizes: &[u8], feature: usize, option: usize) -> Seat
-    requires { ⌜ (feature < 16) × (option < 256) × (length (now share) ≡ 4096) × (1 ≤ getD (now sizes) 0 0) ⌝ }
+    requires { ⌜ (length (now share) ≡ 4096) × (1 ≤ getD (now sizes) 0 0) ⌝ }
+    requires { ⌜ (feature < 16) × (option < 256) × HasBit option × HaveBits (seat .choices) ⌝ }
     ensures { λ r. ⌜ clinicOf r (now (share .exit))
         ≡ posted (now (sizes .entry)) (set (seat .choices) feature option) ⌝ }
 {
@@ -46,7 +49,7 @@ fn close(share: &mut [u8]) -> Seat
     closed()
 }
 
-// A closed seat has no choices, empty masks and no trial.
+// A closed seat has no choices, empty masks, no trial and no alternatives.
 pub fn closed() -> Seat
     ensures { λ r. ⌜ r ≡ closedSeat ⌝ }
 {
@@ -55,12 +58,14 @@ pub fn closed() -> Seat
         choices: [255u8; 16],
         masks: [0u16; 16],
         trial: [255u8; 16],
+        alternatives: [0u16; 16],
     }
 }
 
-// Masks emptied, share filled with 255, pair (0, 0).
+// Masks emptied, but for the options in force among the alternatives; share filled with 255; pair (0, 0).
 fn post(choices: [u8; 16], share: &mut [u8], sizes: &[u8]) -> Seat
-    requires { ⌜ (length (now share) ≡ 4096) × (1 ≤ getD (now sizes) 0 0) × (length choices ≡ 16) ⌝ }
+    requires { ⌜ (length (now share) ≡ 4096) × (1 ≤ getD (now sizes) 0 0) ⌝ }
+    requires { ⌜ (length choices ≡ 16) × HaveBits choices ⌝ }
     ensures { λ r. ⌜ clinicOf r (now (share .exit)) ≡ posted (now (sizes .entry)) choices ⌝ }
 {
     empty(share);
@@ -70,5 +75,31 @@ fn post(choices: [u8; 16], share: &mut [u8], sizes: &[u8]) -> Seat
         choices,
         masks: [0u16; 16],
         trial: [255u8; 16],
+        alternatives: in_force(choices),
     }
+}
+
+// The option in force always counts as an alternative.
+fn in_force(choices: [u8; 16]) -> [u16; 16]
+    requires { ⌜ HaveBits choices ⌝ }
+    ensures { λ r. ⌜ r ≡ map inForce choices ⌝ }
+{
+    let mut bits = [0u16; 16];
+    let mut f = 0usize;
+    while f < 16 {
+        bits[f] = bit_of(choices[f]);
+        f += 1;
+    }
+    bits
+}
+
+// The bit of an option in force; none where there is no choice.
+fn bit_of(choice: u8) -> u16
+    requires { ⌜ HasBit choice ⌝ }
+    ensures { λ r. ⌜ r ≡ inForce choice ⌝ }
+{
+    if choice == 255 {
+        return 0;
+    }
+    1u16 << choice
 }

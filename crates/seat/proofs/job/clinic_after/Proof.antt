@@ -1,7 +1,9 @@
 -- Arm by arm what the definition says of the asking.
 use Prim.Native.Nat.{_<_}
 use mathlib.Core.Path.{refl}
+use native.Mathlib.Omega.{arith}
 use lib.Dec.{lit<}
+use Rattle.seat.proofs.HaveBits.{no-choice-has-bit, none-have-bits}
 use borrow.Author.Needs.{needs}
 use Rattle.seat.proofs.job.clinic_after.Statement.{statement}
 use Rattle.seat.proofs.job.clinic_after.Tie as tie
@@ -10,7 +12,7 @@ enum-told : tie.Need-enum-told
 enum-told c = search needs
 
 post-requires : tie.Need-post-requires
-post-requires c κs = search needs
+post-requires c κs = (c .before .before .before .before .before .pre .0, (refl, none-have-bits))
 
 enum-told-2 : tie.Need-enum-told-2
 enum-told-2 c = search needs
@@ -22,16 +24,17 @@ enum-known-asking : tie.Need-enum-known-asking
 enum-known-asking c = search needs
 
 -- the numbers of a choice, and of a choice dropped, have a place in the record
-chosen : (c : tie.After-asking) → (c .asking .given .0 .0 < 16) × (c .asking .given .0 .1 .0 < 256)
-chosen c = rw (c .asking .given .1) at (c .before .before .before .before .pre .2)
+chosen : (c : tie.After-asking) → (c .asking .given .0 .0 < 16) × (c .asking .given .0 .1 .0 < 16)
+chosen c = rw (c .asking .given .1) at (c .before .before .before .before .pre .1 .0)
 
 dropped : (c : tie.After-asking2) → c .asking2 .given .0 .0 < 16
-dropped c = rw (c .asking2 .given .1) at (c .before .before .before .before .pre .2)
+dropped c = rw (c .asking2 .given .1) at (c .before .before .before .before .pre .1 .0)
 
 post-with-requires : tie.Need-post-with-requires
 post-with-requires c κs =
     let start = c .before .before .before .before .before .before in
-    (chosen (c .before .before) .0, chosen (c .before .before) .1, start .pre .0, start .pre .1)
+    let chosen-so = chosen (c .before .before) in
+    (start .pre .0, (chosen-so .0, omega (arith, chosen-so .1), λ chosen. chosen-so .1, start .pre .1 .1))
 
 enum-known-asking-2 : tie.Need-enum-known-asking-2
 enum-known-asking-2 c = search needs
@@ -39,7 +42,7 @@ enum-known-asking-2 c = search needs
 post-with-requires-2 : tie.Need-post-with-requires-2
 post-with-requires-2 c κs =
     let start = c .before .before .before .before .before .before in
-    (dropped (c .before .before), lit< tt, start .pre .0, start .pre .1)
+    (start .pre .0, (dropped (c .before .before), lit< tt, no-choice-has-bit, start .pre .1 .1))
 
 enum-told-3 : tie.Need-enum-told-3
 enum-told-3 c = search needs

@@ -13,14 +13,24 @@ slice-aggregate-started c = search needs
 started-requires : tie.Need-started-requires
 started-requires c κs = search needs
 
+in-force-requires : tie.Need-in-force-requires
+in-force-requires c κs = c .before .before .before .before .before .before .before .before .pre .1 .1
+
 same-length : tie.Need-same-length
 same-length c = search needs
 
 returns : tie.Need-returns
 unfolding posted
-returns c = rw (c .started .ensures, c .before .before .before .before .empty .ensures, c .before .before .before .before .before .before .before .before .pre .0)
+returns c =
+    let begun = c .before in
+    rw (
+      c .in-force .ensures,
+      begun .started .ensures,
+      begun .before .before .before .before .empty .ensures,
+      begun .before .before .before .before .before .before .before .before .pre .0 .0,
+    )
 
 pub post-spec : {M : Type 1} → statement M
 post-spec =
     tie.close
-    (tie.spec empty-requires slice-aggregate-started started-requires same-length returns)
+    (tie.spec empty-requires slice-aggregate-started started-requires in-force-requires same-length returns)
