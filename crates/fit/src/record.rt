@@ -4,12 +4,14 @@ use search::Seat;
 use search::State;
 ghost use mathlib.Core.Path.{_≡_};
 ghost use mathlib.Core.Bool.{_&&_};
-ghost use Prim.Native.Nat.{_<_};
+ghost use Prim.Native.Nat.{_^_, _<_, _≤_};
+ghost use lib.Dec.{ltb};
 ghost use lib.ListN.{length, getD};
 ghost use Rattle.builds.specs.Catalogue.{catalogueOf};
 ghost use Rattle.builds.specs.Fault.{faultOf, sizesFault};
 ghost use Rattle.builds.specs.Lists.{everyBelow};
-ghost use Rattle.search.specs.RecordFits.{choiceFits, maskFits, emptyAt, placeFits, seatFits, entryFits};
+ghost use Rattle.search.specs.RecordFits.{choiceFits, maskFits, replaceable, alternativesFit, emptyAt};
+ghost use Rattle.search.specs.RecordFits.{placeFits, seatFits, entryFits};
 ghost use Rattle.fit.specs.inner.Trial.{restFits, placedFits};
 
 // Whether a record fits a catalogue without a fault. A closed seat is empty, and what is empty fits any sizes.
@@ -20,36 +22,51 @@ pub fn seat_fits(seat: Seat, sizes: &[u8], rules: &[u16]) -> bool
     let choices = seat.choices;
     let masks = seat.masks;
     let trial = seat.trial;
+    let alternatives = seat.alternatives;
     let state = seat.state;
     match state {
         State::Closed => {
             if !all_empty(&choices, &masks) {
                 return false;
             }
+            if !all_empty(&choices, &alternatives) {
+                return false;
+            }
             trial_fits(&trial, 0, sizes)
         }
-        State::Ready => open_fits(&choices, &masks, &trial, 0, sizes),
+        State::Ready => open_fits(&choices, &masks, &alternatives, &trial, 0, sizes),
         State::AtWork(place) => {
             if !place_fits(place, sizes, rules) {
                 return false;
             }
-            open_fits(&choices, &masks, &trial, place.depth as usize, sizes)
+            open_fits(&choices, &masks, &alternatives, &trial, place.depth as usize, sizes)
         }
     }
 }
 
-// What is asked of the choices, masks and trial of an open seat.
-fn open_fits(choices: &[u8], masks: &[u16], trial: &[u8], depth: usize, sizes: &[u8]) -> bool
-    requires { ⌜ (length (now choices) ≡ 16) × (length (now masks) ≡ 16) × (length (now trial) ≡ 16)
-        × (sizesFault (now sizes) ≡ 0) ⌝ }
+// What is asked of the choices, masks, alternatives and trial of an open seat.
+fn open_fits(
+    choices: &[u8],
+    masks: &[u16],
+    alternatives: &[u16],
+    trial: &[u8],
+    depth: usize,
+    sizes: &[u8],
+) -> bool
+    requires { ⌜ (length (now choices) ≡ 16) × (length (now masks) ≡ 16) × (length (now alternatives) ≡ 16)
+        × (length (now trial) ≡ 16) × (sizesFault (now sizes) ≡ 0) ⌝ }
     ensures { λ r. ⌜ r ≡ (everyBelow 16 (choiceFits (now (sizes .entry)) (now (choices .entry)))
         && everyBelow 16 (maskFits (now (sizes .entry)) (now (masks .entry)))
+        && everyBelow 16 (alternativesFit (now (sizes .entry)) (now (choices .entry)) (now (alternatives .entry)))
         && everyBelow 16 (entryFits (now (sizes .entry)) depth (now (trial .entry)))) ⌝ }
 {
     if !choices_fit(choices, sizes) {
         return false;
     }
     if !masks_fit(masks, sizes) {
+        return false;
+    }
+    if !alternatives_fit(choices, alternatives, sizes) {
         return false;
     }
     trial_fits(trial, depth, sizes)
@@ -80,13 +97,47 @@ fn masks_fit(masks: &[u16], sizes: &[u8]) -> bool
 {
     let mut f = 0usize;
     while f < 16 {
-        let above = 1u32 << size_at(sizes, f);
-        if above <= wide(masks[f]) {
+        if !bits_below(masks[f], size_at(sizes, f)) {
             return false;
         }
         f += 1;
     }
     true
+}
+
+// Each mask of alternatives has bits for options of its feature alone, and none where no choice is in force.
+fn alternatives_fit(choices: &[u8], alternatives: &[u16], sizes: &[u8]) -> bool
+    requires { ⌜ (length (now choices) ≡ 16) × (length (now alternatives) ≡ 16) × (sizesFault (now sizes) ≡ 0) ⌝ }
+    ensures { λ r. ⌜ r ≡ everyBelow 16
+        (alternativesFit (now (sizes .entry)) (now (choices .entry)) (now (alternatives .entry))) ⌝ }
+{
+    let mut f = 0usize;
+    while f < 16 {
+        if !bits_below(alternatives[f], options_at(choices, sizes, f)) {
+            return false;
+        }
+        f += 1;
+    }
+    true
+}
+
+// How many options of a feature could replace its choice: none where it has none.
+fn options_at(choices: &[u8], sizes: &[u8], f: usize) -> u8
+    requires { ⌜ f < length (now choices) ⌝ }
+    ensures { λ r. ⌜ r ≡ replaceable (now (sizes .entry)) (now (choices .entry)) f ⌝ }
+{
+    if choices[f] == 255 {
+        return 0;
+    }
+    size_at(sizes, f)
+}
+
+// A mask has bits for options below a size alone.
+fn bits_below(mask: u16, size: u8) -> bool
+    requires { ⌜ size ≤ 16 ⌝ }
+    ensures { λ r. ⌜ r ≡ ltb mask (2 ^ size) ⌝ }
+{
+    wide(mask) < 1u32 << size
 }
 
 // Entries before the depth are options of their features, the others 255.
@@ -135,7 +186,7 @@ fn placed_fit(trial: &[u8], depth: usize, sizes: &[u8]) -> bool
     true
 }
 
-// No choice, and no mask bit. No early exit, as for the trial.
+// No choice, and no bit in a mask. No early exit, as for the trial.
 fn all_empty(choices: &[u8], masks: &[u16]) -> bool
     requires { ⌜ (length (now choices) ≡ 16) × (length (now masks) ≡ 16) ⌝ }
     ensures { λ r. ⌜ r ≡ everyBelow 16 (emptyAt (now (choices .entry)) (now (masks .entry))) ⌝ }

@@ -1,12 +1,13 @@
--- What the state asks decides, or what every state asks; a closed seat is empty, and choices and masks that are empty fit.
-use Prim.Native.Nat.{ℕ, _<_, _^_}
+-- What the state asks decides, or what every state asks; a closed seat is empty, and choices masks and alternatives that are empty fit.
+use Prim.Native.Nat.{ℕ, zero, suc, _<_, _^_}
 use mathlib.Core.Path.{_≡_, refl, sym, ap, _∙_}
 use mathlib.Core.Bool.{Bool, true, false, _&&_, and-eq-true-iff}
 use mathlib.Core.List.{List}
+use native.Mathlib.Omega.{arith}
 use borrow.Author.Needs.{needs}
-use borrow.Author.Tests.{not-true, not-false, eqb-true, lt-ltb}
+use borrow.Author.Tests.{not-true, not-false, eqb-true, eqb-false, lt-ltb, le-ltb}
 use lib.ListN.{getD}
-use lib.Dec.{eqb}
+use lib.Dec.{eqb, ltb}
 use lib.Pow.{pow-pos}
 use Rattle.builds.specs.Catalogue.{Catalogue}
 use Rattle.builds.proofs.Faultless.{fault-zero}
@@ -14,7 +15,7 @@ use Rattle.search.specs.declared.Seat.{Seat}
 use Rattle.search.specs.declared.State.{State}
 use Rattle.search.specs.declared.State.the-variants.{Closed, Ready, AtWork}
 use Rattle.builds.specs.Lists.{everyBelow}
-use Rattle.search.specs.RecordFits.{choiceFits, maskFits, entryFits, emptyAt, depthOf, stateFits, seatFits}
+use Rattle.search.specs.RecordFits.{choiceFits, maskFits, alternativesFit, entryFits, emptyAt, depthOf, stateFits, seatFits}
 use Rattle.search.proofs.FitsInWords.{every-below, below-every}
 use Rattle.fit.proofs.record.seat_fits.Statement.{statement}
 use Rattle.fit.proofs.record.seat_fits.Tie as tie
@@ -26,6 +27,19 @@ and-off false trial = refl
 and-on : (others trial : Bool) → (others && true && trial) ≡ (others && trial)
 and-on true trial = refl
 and-on false trial = refl
+
+below-one : (mask : ℕ) → ltb mask 1 ≡ eqb mask 0
+below-one mask = go (eqb mask 0) refl
+  where
+    go : (none : Bool) → eqb mask 0 ≡ none → ltb mask 1 ≡ none
+    go true e = lt-ltb mask 1 (omega (arith, eqb-true mask 0 e))
+    go false e = le-ltb mask 1 (omega (arith, eqb-false mask 0 e))
+
+same-below : (test other : ℕ → Bool) (n : ℕ) → ((k : ℕ) → k < n → test k ≡ other k) → everyBelow n test ≡ everyBelow n other
+unfolding everyBelow
+same-below test other zero same = refl
+same-below test other (suc n) same =
+    rw (same-below test other n (λ (k : ℕ) (l : k < n). same k (omega arith)), same n (omega arith)) refl
 
 module _ (sizes choices masks : List ℕ) (empty : everyBelow 16 (emptyAt choices masks) ≡ true) where
   empty-at : (f : ℕ) → f < 16 → (eqb (getD choices f 255) 255 ≡ true) × (eqb (getD masks f 0) 0 ≡ true)
@@ -40,9 +54,19 @@ module _ (sizes choices masks : List ℕ) (empty : everyBelow 16 (emptyAt choice
       below-every (maskFits sizes masks) 16
       (λ (f : ℕ) (l : f < 16). lt-ltb (getD masks f 0) (2 ^ getD sizes f 0) (rw (eqb-true (getD masks f 0) 0 (empty-at f l .1)) (pow-pos (getD sizes f 0))))
 
+  -- where no choice is in force, a mask of alternatives fits just where it is empty
+  alternatives-at : (alternatives : List ℕ) (f : ℕ) → f < 16 → alternativesFit sizes choices alternatives f ≡ emptyAt choices alternatives f
+  alternatives-at alternatives f l = rw (empty-at f l .0) (below-one (getD alternatives f 0))
+
+  no-alternative-fits : (alternatives : List ℕ)
+      → everyBelow 16 (alternativesFit sizes choices alternatives) ≡ everyBelow 16 (emptyAt choices alternatives)
+  no-alternative-fits alternatives = same-below (alternativesFit sizes choices alternatives) (emptyAt choices alternatives) 16 (alternatives-at alternatives)
+
 module _ (catalogue : Catalogue) (seat : Seat) (state : State) (at : seat .state ≡ state) where
   abbrev entries : Bool
-  entries = everyBelow 16 (choiceFits (catalogue .sizes) (seat .choices)) && everyBelow 16 (maskFits (catalogue .sizes) (seat .masks))
+  entries = everyBelow 16 (choiceFits (catalogue .sizes) (seat .choices))
+      && everyBelow 16 (maskFits (catalogue .sizes) (seat .masks))
+      && everyBelow 16 (alternativesFit (catalogue .sizes) (seat .choices) (seat .alternatives))
 
   abbrev trial-at : ℕ → Bool
   trial-at depth = everyBelow 16 (entryFits (catalogue .sizes) depth (seat .trial))
@@ -65,11 +89,17 @@ module _ (catalogue : Catalogue) (seat : Seat) (state : State) (at : seat .state
 abbrev given : tie.Start → Catalogue
 given start = record { sizes = start .args .sizes .now; list = start .args .rules .now }
 
--- a closed seat that is empty is left to its trial
+-- a closed seat that has no choice and no option left goes on to its alternatives and its trial
 closed-left : (catalogue : Catalogue) (seat : Seat) → seat .state ≡ Closed → everyBelow 16 (emptyAt (seat .choices) (seat .masks)) ≡ true
-    → seatFits catalogue seat ≡ everyBelow 16 (entryFits (catalogue .sizes) 0 (seat .trial))
+    → seatFits catalogue seat
+    ≡ (everyBelow 16 (emptyAt (seat .choices) (seat .alternatives)) && everyBelow 16 (entryFits (catalogue .sizes) 0 (seat .trial)))
 closed-left catalogue seat at empty =
-    rw (no-choice-fits (catalogue .sizes) (seat .choices) (seat .masks) empty, no-mask-fits (catalogue .sizes) (seat .choices) (seat .masks) empty) at (state-on catalogue seat Closed at empty)
+    rw (
+      no-choice-fits (catalogue .sizes) (seat .choices) (seat .masks) empty,
+      no-mask-fits (catalogue .sizes) (seat .choices) (seat .masks) empty,
+      no-alternative-fits (catalogue .sizes) (seat .choices) (seat .masks) empty (seat .alternatives),
+    )
+    at (state-on catalogue seat Closed at empty)
 
 enum-told : tie.Need-enum-told
 enum-told c = search needs
@@ -85,10 +115,33 @@ all-empty-requires c κs = search needs
 
 returns : tie.Need-returns
 returns c =
-    let start = c .before .before .before .before .before .before .before .before .before .before .before in
+    let start = c .before .before .before .before .before .before .before .before .before .before .before .before in
     sym
     (state-off (given start) (start .args .seat) Closed (c .before .before .before .before .enum-told .given .1)
     (sym (c .before .all-empty .ensures) ∙ not-true _ (c .if1 .taken)))
+
+-- past the first test of a closed seat
+left-so : (c : tie.Else1) → let start = c .before .before .before .before .before .before .before .before .before .before .before .before in
+    seatFits (given start) (start .args .seat)
+    ≡ (everyBelow 16 (emptyAt (start .args .seat .choices) (start .args .seat .alternatives))
+    && everyBelow 16 (entryFits (start .args .sizes .now) 0 (start .args .seat .trial)))
+left-so c =
+    let start = c .before .before .before .before .before .before .before .before .before .before .before .before in
+    closed-left (given start) (start .args .seat) (c .before .before .before .before .enum-told .given .1)
+    (sym (c .before .all-empty .ensures) ∙ not-false _ (c .if1 .left))
+
+slice-aggregate-all-empty-3 : tie.Need-slice-aggregate-all-empty-3
+slice-aggregate-all-empty-3 c = search needs
+
+slice-aggregate-all-empty-4 : tie.Need-slice-aggregate-all-empty-4
+slice-aggregate-all-empty-4 c = search needs
+
+all-empty-requires-2 : tie.Need-all-empty-requires-2
+all-empty-requires-2 c κs = search needs
+
+returns-2 : tie.Need-returns-2
+returns-2 c =
+    rw (sym (c .before .all-empty2 .ensures) ∙ not-true _ (c .if2 .taken)) at (sym (left-so (c .before .before .before .before)))
 
 slice-aggregate-trial-fits : tie.Need-slice-aggregate-trial-fits
 slice-aggregate-trial-fits c = search needs
@@ -108,10 +161,13 @@ slice-aggregate-open-fits-2 c = search needs
 slice-aggregate-open-fits-3 : tie.Need-slice-aggregate-open-fits-3
 slice-aggregate-open-fits-3 c = search needs
 
+slice-aggregate-open-fits-4 : tie.Need-slice-aggregate-open-fits-4
+slice-aggregate-open-fits-4 c = search needs
+
 open-fits-requires : tie.Need-open-fits-requires
 open-fits-requires c κs =
-    let start = c .before .before .before .before .before .before .before .before .before .before in
-    (search needs, search needs, search needs, fault-zero (given start) (start .pre) .sizes-fit)
+    let start = c .before .before .before .before .before .before .before .before .before .before .before .before in
+    (search needs, search needs, search needs, search needs, fault-zero (given start) (start .pre) .sizes-fit)
 
 enum-known-state : tie.Need-enum-known-state
 enum-known-state c = search needs
@@ -119,16 +175,13 @@ enum-known-state c = search needs
 place-fits-requires : tie.Need-place-fits-requires
 place-fits-requires c κs = search needs
 
-returns-2 : tie.Need-returns-2
-returns-2 c =
-    let start = c .before .before .before .before .before .before .before .before .before .before in
+returns-3 : tie.Need-returns-3
+returns-3 c =
+    let start = c .before .before .before .before .before .before .before .before .before .before .before in
     let state = c .before .before .before .state .given in
     sym
     (state-off (given start) (start .args .seat) (AtWork (state .0 .0)) (state .1)
-    (sym (c .before .place-fits .ensures) ∙ not-true _ (c .if2 .taken)))
-
-slice-aggregate-open-fits-4 : tie.Need-slice-aggregate-open-fits-4
-slice-aggregate-open-fits-4 c = search needs
+    (sym (c .before .place-fits .ensures) ∙ not-true _ (c .if3 .taken)))
 
 slice-aggregate-open-fits-5 : tie.Need-slice-aggregate-open-fits-5
 slice-aggregate-open-fits-5 c = search needs
@@ -136,35 +189,38 @@ slice-aggregate-open-fits-5 c = search needs
 slice-aggregate-open-fits-6 : tie.Need-slice-aggregate-open-fits-6
 slice-aggregate-open-fits-6 c = search needs
 
+slice-aggregate-open-fits-7 : tie.Need-slice-aggregate-open-fits-7
+slice-aggregate-open-fits-7 c = search needs
+
+slice-aggregate-open-fits-8 : tie.Need-slice-aggregate-open-fits-8
+slice-aggregate-open-fits-8 c = search needs
+
 cast-open-fits : tie.Need-cast-open-fits
 cast-open-fits c = search needs
 
 open-fits-requires-2 : tie.Need-open-fits-requires-2
 open-fits-requires-2 c κs =
-    let start = c .before .before .before .before .before .before .before .before .before .before .before .before .before .before in
-    (search needs, search needs, search needs, fault-zero (given start) (start .pre) .sizes-fit)
-
-returns-3 : tie.Need-returns-3
-returns-3 c =
-    let start = c .before .before .before .before .before .before .before .before .before .before .before .before .before in
-    c .trial-fits .ensures
-    ∙ sym
-    (closed-left (given start) (start .args .seat) (c .before .before .before .before .before .before .enum-told .given .1)
-    (sym (c .before .before .before .all-empty .ensures) ∙ not-false _ (c .before .before .if1 .left)))
+    let start = c .before .before .before .before .before .before .before .before .before .before .before .before .before .before .before .before in
+    (search needs, search needs, search needs, search needs, fault-zero (given start) (start .pre) .sizes-fit)
 
 returns-4 : tie.Need-returns-4
 returns-4 c =
-    let start = c .before .before .before .before .before .before .before .before .before .before .before in
-    c .open-fits .ensures ∙ sym (state-on (given start) (start .args .seat) Ready (c .before .before .before .before .enum-told2 .given .1) refl)
+    let empty = sym (c .before .before .before .all-empty2 .ensures) ∙ not-false _ (c .before .before .if2 .left) in
+    c .trial-fits .ensures ∙ sym (rw empty at (left-so (c .before .before .before .before .before .before)))
 
 returns-5 : tie.Need-returns-5
 returns-5 c =
-    let start = c .before .before .before .before .before .before .before .before .before .before .before .before .before .before .before in
-    let state = c .before .before .before .before .before .before .before .before .state .given in
+    let start = c .before .before .before .before .before .before .before .before .before .before .before .before .before in
+    c .open-fits .ensures ∙ sym (state-on (given start) (start .args .seat) Ready (c .before .before .before .before .before .enum-told2 .given .1) refl)
+
+returns-6 : tie.Need-returns-6
+returns-6 c =
+    let start = c .before .before .before .before .before .before .before .before .before .before .before .before .before .before .before .before .before in
+    let state = c .before .before .before .before .before .before .before .before .before .state .given in
     c .open-fits2 .ensures
     ∙ sym
     (state-on (given start) (start .args .seat) (AtWork (state .0 .0)) (state .1)
-    (sym (c .before .before .before .before .before .before .place-fits .ensures) ∙ not-false _ (c .before .before .before .before .before .if2 .left)))
+    (sym (c .before .before .before .before .before .before .before .place-fits .ensures) ∙ not-false _ (c .before .before .before .before .before .before .if3 .left)))
 
 pub seat-fits-spec : {M : Type 1} → statement M
 seat-fits-spec =
@@ -175,21 +231,27 @@ seat-fits-spec =
     slice-aggregate-all-empty-2
     all-empty-requires
     returns
+    slice-aggregate-all-empty-3
+    slice-aggregate-all-empty-4
+    all-empty-requires-2
+    returns-2
     slice-aggregate-trial-fits
     trial-fits-requires
     enum-told-2
     slice-aggregate-open-fits
     slice-aggregate-open-fits-2
     slice-aggregate-open-fits-3
+    slice-aggregate-open-fits-4
     open-fits-requires
     enum-known-state
     place-fits-requires
-    returns-2
-    slice-aggregate-open-fits-4
+    returns-3
     slice-aggregate-open-fits-5
     slice-aggregate-open-fits-6
+    slice-aggregate-open-fits-7
+    slice-aggregate-open-fits-8
     cast-open-fits
     open-fits-requires-2
-    returns-3
     returns-4
-    returns-5)
+    returns-5
+    returns-6)
