@@ -28,11 +28,13 @@ pub enum Way {
     Exhausted,
 }
 
-// What a step comes to: the state after it, the depth before which options stay placed, and whether a build was found.
+// What a step comes to: the state after it, the depth before which options stay placed, and what a build that was found
+// shows of the pair's option.
 pub struct After {
     pub state: State,
     pub depth: u8,
-    pub found: bool,
+    pub left: bool, // it is left, and the build was written as its example
+    pub alternative: bool, // it could replace the choice of its feature, and no example was written
 }
 
 // One step: record and share of the written search after it. A seat that is not at work makes none.
@@ -79,6 +81,7 @@ fn step_at(
     let choices = seat.choices;
     let masks = seat.masks;
     let trial = seat.trial;
+    let alternatives = seat.alternatives;
     let mut placed = trial;
     let j = place.depth as usize;
     placed[j] = place.next;
@@ -96,12 +99,14 @@ fn step_at(
     Seat {
         state,
         choices,
-        masks: masks_after(masks, place.feature, place.option, after.found),
+        masks: masks_after(masks, place.feature, place.option, after.left),
         trial: trial_after(trial, edge, place.depth, place.next, after.depth),
+        alternatives: masks_after(alternatives, place.feature, place.option, after.alternative),
     }
 }
 
-// Rule 1, then the others; an example is written where a build is found.
+// What comes of trying the option decides: the search goes on, or the pair ends. A build that is found is written as the
+// example, but for one at a feature chosen otherwise: its option is no more than an alternative.
 fn after_step(
     place: Place,
     choices: &[u8],
@@ -121,9 +126,6 @@ fn after_step(
 {
     let feature = place.feature;
     let option = place.option;
-    if chosen_otherwise(choices, feature, option) {
-        return pair_ended(sizes, choices, feature, option, false);
-    }
     let way = try_next(place, choices, placed, sizes, rules, places, counts);
     match way {
         Way::GoOn { depth, next } => {
@@ -136,16 +138,20 @@ fn after_step(
             After {
                 state,
                 depth,
-                found: false,
+                left: false,
+                alternative: false,
             }
         }
         Way::Build => {
+            if chosen_otherwise(choices, feature, option) {
+                return pair_ended(sizes, choices, feature, option, false, true);
+            }
             let i = feature as usize;
             let a = option as usize;
             write_example(share, i * 256 + a * 16, placed);
-            pair_ended(sizes, choices, feature, option, true)
+            pair_ended(sizes, choices, feature, option, true, false)
         }
-        Way::Exhausted => pair_ended(sizes, choices, feature, option, false),
+        Way::Exhausted => pair_ended(sizes, choices, feature, option, false, false),
     }
 }
 
@@ -225,20 +231,29 @@ fn given_up(sizes: &[u8], choices: &[u8], i: usize, option: u8, depth: u8, place
 }
 
 // A pair ends, and the next starts in the same step; after the last the seat is ready.
-fn pair_ended(sizes: &[u8], choices: &[u8], feature: u8, option: u8, found: bool) -> After
+fn pair_ended(
+    sizes: &[u8],
+    choices: &[u8],
+    feature: u8,
+    option: u8,
+    left: bool,
+    alternative: bool,
+) -> After
     requires { ⌜ (length (now sizes) ≤ 16) × (feature < length (now sizes)) × (option < 16) ⌝ }
     requires { ⌜ (length (now choices) ≡ 16) × (1 ≤ getD (now sizes) 0 0) ⌝ }
     ensures { λ r. ⌜ r ≡ record {
       state = afterPair (now (sizes .entry)) (now (choices .entry)) feature option;
       depth = 0;
-      found = found;
+      left = left;
+      alternative = alternative;
     } ⌝ }
 {
     let state = after_pair(sizes, choices, feature, option);
     After {
         state,
         depth: 0,
-        found,
+        left,
+        alternative,
     }
 }
 

@@ -1,5 +1,5 @@
--- Rule 1 ends the pair; otherwise what comes of trying the option decides: the search goes on, or the pair ends, with an
--- example or without. The place that fits the catalogue gives the bounds that the callees ask for.
+-- What comes of trying the option decides: the search goes on, or the pair ends, with an example, with an alternative or
+-- without a build. The place that fits the catalogue gives the bounds that the callees ask for.
 use Prim.Native.Nat.{ℕ, _≤_, _<_}
 use mathlib.Core.Path.{_≡_, refl, sym, _∙_}
 use mathlib.Core.Bool.{Bool, true, false}
@@ -11,7 +11,7 @@ use Rattle.builds.specs.Catalogue.{Catalogue, catalogueOf}
 use Rattle.search.specs.declared.Place.{Place}
 use Rattle.search.specs.declared.Seat.{Seat}
 use Rattle.step.specs.declared.written.Way.{Way}
-use Rattle.search.specs.Clinic.{clinicOf, withExample}
+use Rattle.search.specs.Clinic.{clinicOf, withExample, withAlternative}
 use Rattle.search.specs.Candidates.{chosenOtherwise}
 use Rattle.search.specs.Step.{pairEnded, afterTried, stepAt, tried}
 use Rattle.search.specs.inner.Placed.{keptBefore}
@@ -37,36 +37,18 @@ pair-bounds c =
       (c .pre .0 .sixteen-choices, first-has-option (catalogue c) fault),
     )
 
--- whether rule 1 ends the pair
-abbrev otherwise : tie.Start → Bool
-otherwise c = chosenOtherwise (c .args .choices .now) (c .args .place .feature) (c .args .place .option)
+-- whether the pair's feature has another choice
+abbrev otherwise : tie.Start → List ℕ → Bool
+otherwise c choices = chosenOtherwise choices (c .args .place .feature) (c .args .place .option)
 
--- where it does not, the step is what comes of trying the option
+-- the step is what comes of trying the option
 step-tries : (catalogue : Catalogue) (p : Place) (choices placed : List ℕ) (way : Way)
-    → chosenOtherwise choices (p .feature) (p .option) ≡ false
     → triedOf way placed ≡ tried catalogue choices (p .feature) (p .option) (p .depth) (p .next) (keptBefore (p .depth) placed)
     → (seat : Seat) (share : List ℕ) → seat .choices ≡ choices → seat .trial ≡ keptBefore (p .depth) placed
     → stepAt catalogue p (clinicOf seat share)
     ≡ afterTried (catalogue .sizes) (p .feature) (p .option) (clinicOf seat share) (triedOf way placed)
 unfolding stepAt
-step-tries catalogue p choices placed way free came seat share chosen-so trial-so = rw (chosen-so, trial-so, free, came) refl
-
-chosen-otherwise-requires : tie.Need-chosen-otherwise-requires
-chosen-otherwise-requires c κs =
-    let start = c .before .before .before .before .before .before .before in
-    rw (start .pre .0 .sixteen-choices) (feature-below-16 (catalogue start) (start .pre .0 .no-fault) (within start))
-
-pair-ended-requires : tie.Need-pair-ended-requires
-pair-ended-requires c κs = pair-bounds (c .before .before .before .before .before .before .before .before .before)
-
-returns : tie.Need-returns
-unfolding stepAt pairEnded keptBefore
-returns c =
-    let start = c .before .before .before .before .before .before .before .before .before .before in
-    let chosen : otherwise start ≡ true = sym (c .before .before .chosen-otherwise .ensures) ∙ c .before .if1 .taken in (
-      rw (c .pair-ended .ensures) (omega arith),
-      λ (seat : Seat) chosen-so trial-so. rw (c .pair-ended .ensures, chosen-so, chosen) refl,
-    )
+step-tries catalogue p choices placed way came seat share chosen-so trial-so = rw (chosen-so, trial-so, came) refl
 
 try-next-requires : tie.Need-try-next-requires
 try-next-requires c κs = search needs
@@ -75,20 +57,41 @@ enum-known-way : tie.Need-enum-known-way
 enum-known-way c = search needs
 
 -- the step, by the way that trying the option comes to
-tried-so : (c : tie.After-try-next) → let start = c .before .before .before .before .before .before .before .before .before .before in
+tried-so : (c : tie.After-try-next) → let start = c .before .before .before .before .before .before .before .before in
     (seat : Seat) → seat .choices ≡ start .args .choices .now
     → seat .trial ≡ keptBefore (start .args .place .depth) (start .args .placed .now)
     → stepAt (catalogue start) (start .args .place) (clinicOf seat (start .args .share .now))
     ≡ afterTried (start .args .sizes .now) (start .args .place .feature) (start .args .place .option)
     (clinicOf seat (start .args .share .now)) (triedOf (c .try-next .result) (start .args .placed .now))
 tried-so c seat =
-    let start = c .before .before .before .before .before .before .before .before .before .before in
-    let free : otherwise start ≡ false = sym (c .before .before .chosen-otherwise .ensures) ∙ c .before .if1 .left in
-    step-tries (catalogue start) (start .args .place) (start .args .choices .now) (start .args .placed .now) (c .try-next .result) free
+    let start = c .before .before .before .before .before .before .before .before in
+    step-tries (catalogue start) (start .args .place) (start .args .choices .now) (start .args .placed .now) (c .try-next .result)
     (c .try-next .ensures .1) seat (start .args .share .now)
 
 enum-told : tie.Need-enum-told
 enum-told c = search needs
+
+chosen-otherwise-requires : tie.Need-chosen-otherwise-requires
+chosen-otherwise-requires c κs =
+    let start = c .before .before .before .before .before .before .before .before .before .before in
+    rw (start .pre .0 .sixteen-choices) (feature-below-16 (catalogue start) (start .pre .0 .no-fault) (within start))
+
+pair-ended-requires : tie.Need-pair-ended-requires
+pair-ended-requires c κs = pair-bounds (c .before .before .before .before .before .before .before .before .before .before .before .before)
+
+returns : tie.Need-returns
+unfolding afterTried pairEnded withAlternative keptBefore
+returns c =
+    let attempt = c .before .before .before .before .before in
+    let found = c .before .before .before .enum-told .given .1 in
+    let start = attempt .before .before .before .before .before .before .before .before in
+    let chosen : otherwise start (start .args .choices .now) ≡ true = sym (c .before .before .chosen-otherwise .ensures) ∙ c .before .if1 .taken in (
+      rw (c .pair-ended .ensures) (omega arith),
+      λ (seat : Seat) chosen-so trial-so.
+          let here : otherwise start (seat .choices) ≡ true = rw chosen-so chosen in
+          rw (c .pair-ended .ensures, ← chosen-so)
+          (sym (rw (found, here) at (tried-so attempt seat chosen-so trial-so))),
+    )
 
 cast-i : tie.Need-cast-i
 cast-i c = search needs
@@ -119,7 +122,7 @@ enum-told-2 : tie.Need-enum-told-2
 enum-told-2 c = search needs
 
 pair-ended-requires-3 : tie.Need-pair-ended-requires-3
-pair-ended-requires-3 c κs = pair-bounds (c .before .before .before .before .before .before .before .before .before .before .before .before)
+pair-ended-requires-3 c κs = pair-bounds (c .before .before .before .before .before .before .before .before .before .before)
 
 returns-2 : tie.Need-returns-2
 unfolding afterTried
@@ -136,16 +139,19 @@ same-length c = search needs
 returns-3 : tie.Need-returns-3
 unfolding afterTried pairEnded withExample keptBefore
 returns-3 c =
-    let attempt = c .before .before .before .before .before .before .before in
-    let found = c .before .before .before .before .before .enum-told .given .1 in (
+    let attempt = c .before .before .before .before .before .before .before .before .before in
+    let found = c .before .before .before .before .before .before .before .enum-told .given .1 in
+    let start = attempt .before .before .before .before .before .before .before .before in
+    let free : otherwise start (start .args .choices .now) ≡ false = sym (c .before .before .before .before .before .before .chosen-otherwise .ensures) ∙ c .before .before .before .before .before .if1 .left in (
       rw (c .pair-ended2 .ensures) (omega arith),
       λ (seat : Seat) chosen-so trial-so.
+          let here : otherwise start (seat .choices) ≡ false = rw chosen-so free in
           rw (c .pair-ended2 .ensures, c .before .before .before .write-example .ensures, ← chosen-so)
-          (sym (rw found at (tried-so attempt seat chosen-so trial-so))),
+          (sym (rw (found, here) at (tried-so attempt seat chosen-so trial-so))),
     )
 
 returns-4 : tie.Need-returns-4
-unfolding afterTried pairEnded withExample keptBefore
+unfolding afterTried pairEnded keptBefore
 returns-4 c =
     let attempt = c .before .before .before in
     let none = c .before .enum-told2 .given .1 in (
@@ -158,12 +164,12 @@ pub after-step-spec : {M : Type 1} → statement M
 after-step-spec =
     tie.close
     (tie.spec
-    chosen-otherwise-requires
-    pair-ended-requires
-    returns
     try-next-requires
     enum-known-way
     enum-told
+    chosen-otherwise-requires
+    pair-ended-requires
+    returns
     cast-i
     cast-a
     mul-write-example

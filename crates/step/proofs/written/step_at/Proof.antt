@@ -34,7 +34,7 @@ cast-j : tie.Need-cast-j
 cast-j c = search needs
 
 array-write-placed : tie.Need-array-write-placed
-array-write-placed c = shallow (c .before .before .before .before .before .before .before .before .before .before)
+array-write-placed c = shallow (c .before .before .before .before .before .before .before .before .before .before .before)
 
 slice-aggregate-after-step : tie.Need-slice-aggregate-after-step
 slice-aggregate-after-step c = search needs
@@ -44,7 +44,7 @@ slice-aggregate-after-step-2 c = search needs
 
 after-step-requires : tie.Need-after-step-requires
 after-step-requires c κs =
-    let start = c .before .before .before .before .before .before .before .before .before .before .before .before .before in
+    let start = c .before .before .before .before .before .before .before .before .before .before .before .before .before .before in
     let needs = start .pre .0 in (
       record {
         no-fault = needs .no-fault;
@@ -57,15 +57,18 @@ after-step-requires c κs =
       needs .whole-share,
     )
 
+-- the pair is within what a mask has bits for
+pair-below : (c : tie.Start) → (c .args .place .feature < 16) × (c .args .place .option < 16)
+pair-below c =
+    let fault = c .pre .0 .no-fault in
+    (feature-below-16 (catalogue c) fault (within c), option-below-16 (catalogue c) fault (within c))
+
 masks-after-requires : tie.Need-masks-after-requires
-masks-after-requires c κs =
-    let start = c .before .before .before .before .before .before .before .before .before .before .before .before .before .before .before .before in
-    let fault = start .pre .0 .no-fault in
-    (feature-below-16 (catalogue start) fault (within start), option-below-16 (catalogue start) fault (within start))
+masks-after-requires c κs = pair-below (c .before .before .before .before .before .before .before .before .before .before .before .before .before .before .before .before .before)
 
 trial-after-requires : tie.Need-trial-after-requires
 trial-after-requires c κs =
-    let start = c .before .before .before .before .before .before .before .before .before .before .before .before .before .before .before .before .before in
+    let start = c .before .before .before .before .before .before .before .before .before .before .before .before .before .before .before .before .before .before in
     let fault = start .pre .0 .no-fault in
     let place = start .args .place in (
       (shallow start, c .before .before .before .after-step .ensures .0, start .pre .0 .the-edge),
@@ -75,18 +78,21 @@ trial-after-requires c κs =
       ),
     )
 
+masks-after-requires-2 : tie.Need-masks-after-requires-2
+masks-after-requires-2 c κs = pair-below (c .before .before .before .before .before .before .before .before .before .before .before .before .before .before .before .before .before .before .before)
+
 same-length : tie.Need-same-length
 same-length c = search needs
 
 returns : tie.Need-returns
 returns c =
-    let start = c .before .before .before .before .before .before .before .before .before .before .before .before .before .before .before .before .before .before in
+    let start = c .before .before .before .before .before .before .before .before .before .before .before .before .before .before .before .before .before .before .before .before in
     let place = start .args .place in
     let seat = start .args .seat in
     let nothing = nothing-from-depth (catalogue start) (start .pre .0 .no-fault) seat (fits start) place (start .pre .1) (trial-long start) in
     let under = kept-under (seat .trial) (trial-long start) (place .depth) (place .next) (omega (arith, shallow start)) nothing in
-    rw (c .before .masks-after .ensures, c .trial-after .ensures)
-    (c .before .before .before .before .after-step .ensures .1 seat refl under)
+    rw (c .before .before .masks-after .ensures, c .before .trial-after .ensures, c .masks-after2 .ensures)
+    (c .before .before .before .before .before .after-step .ensures .1 seat refl under)
 
 pub step-at-spec : {M : Type 1} → statement M
 step-at-spec =
@@ -99,5 +105,6 @@ step-at-spec =
     after-step-requires
     masks-after-requires
     trial-after-requires
+    masks-after-requires-2
     same-length
     returns)
