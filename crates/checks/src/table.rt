@@ -32,6 +32,8 @@ const RELAX: [u8; 4] = [31, 33, 34, 38];
 
 const OPTIONS: [u8; 3] = [31, 33, 34];
 
+const ALTERNATIVES: [u8; 4] = [31, 33, 34, 38];
+
 const EXAMPLE: [u8; 5] = [31, 33, 34, 35, 37];
 
 // 1 and 10 to 18: what open checks.
@@ -93,6 +95,7 @@ fn asked(asking: Asking, seat: Seat, sizes: &[u8]) -> u8
         Asking::Relax { feature } => walked(&RELAX, seat, sizes, feature, 0),
         Asking::Read(reading) => match reading {
             Reading::Options { feature } => walked(&OPTIONS, seat, sizes, feature, 0),
+            Reading::Alternatives { feature } => walked(&ALTERNATIVES, seat, sizes, feature, 0),
             Reading::Example { feature, option } => walked(&EXAMPLE, seat, sizes, feature, option),
         },
     }

@@ -60,6 +60,15 @@ slice-aggregate-walked-6 c = search needs
 walked-requires-6 : tie.Need-walked-requires-6
 walked-requires-6 c κs = search needs
 
+enum-known-reading-3 : tie.Need-enum-known-reading-3
+enum-known-reading-3 c = search needs
+
+slice-aggregate-walked-7 : tie.Need-slice-aggregate-walked-7
+slice-aggregate-walked-7 c = search needs
+
+walked-requires-7 : tie.Need-walked-requires-7
+walked-requires-7 c κs = search needs
+
 returns : tie.Need-returns
 returns c = rw (c .before .before .enum-told .given .1) (c .walked .ensures)
 
@@ -81,6 +90,11 @@ returns-6 : tie.Need-returns-6
 returns-6 c =
     let read = c .before .before .before in
     rw (read .before .before .before .asking3 .given .1, read .reading2 .given .1) (c .walked6 .ensures)
+
+returns-7 : tie.Need-returns-7
+returns-7 c =
+    let read = c .before .before .before in
+    rw (read .before .before .before .asking3 .given .1, read .reading3 .given .1) (c .walked7 .ensures)
 
 pub asked-spec : {M : Type 1} → statement M
 asked-spec =
@@ -105,9 +119,13 @@ asked-spec =
     enum-known-reading-2
     slice-aggregate-walked-6
     walked-requires-6
+    enum-known-reading-3
+    slice-aggregate-walked-7
+    walked-requires-7
     returns
     returns-2
     returns-3
     returns-4
     returns-5
-    returns-6)
+    returns-6
+    returns-7)
