@@ -1,2 +1,3 @@
 -- What the calls that read a seat cite, and what their contracts are.
+pub mod ReadSeat
 pub mod Contracts

@@ -5,13 +5,13 @@ use runs::Left;
 use runs::Reading;
 ghost use mathlib.Core.Path.{_≡_};
 ghost use Rattle.runs.specs.declared.Asking.the-variants.{Read};
-ghost use Rattle.runs.specs.declared.Reading.the-variants.{Options, Example};
-ghost use Rattle.runs.specs.Call.{asks};
-ghost use Rattle.runs.specs.Answers.{ReadsAs, BytesAre, BeginsAt, NumberIs};
-ghost use Rattle.runs.specs.Perform.{performed};
+ghost use Rattle.runs.specs.declared.Reading.the-variants.{Options, Alternatives, Example};
+ghost use Rattle.runs.specs.Call.{asks, refused};
+ghost use Rattle.runs.specs.Answers.{leftAnswer, ReadsAs, BytesAre, BeginsAt, NumberIs};
+ghost use Rattle.runs.specs.Perform.{maskAnswer, performed};
 ghost use Rattle.runs.specs.Room.{roomOf};
 
-// The mask of one feature and how many bits are set in it.
+// The options left of one feature, and how many they are.
 pub fn options(desk: Desk, board: &[u8], sizes: &[u8], rules: &[u16], c: usize, i: usize) -> Left
     ensures { λ r. ⌜ ReadsAs
         (performed (now (sizes .entry)) (now (rules .entry)) desk (now (board .entry)) (asks c (Read (Options i))))
@@ -20,14 +20,41 @@ pub fn options(desk: Desk, board: &[u8], sizes: &[u8], rules: &[u16], c: usize, 
     let asking = Asking::Read(Reading::Options { feature: i });
     let number = checks::number(asking, desk, board.len(), sizes, rules, c);
     if number != 0 {
-        return Left {
-            number,
-            mask: 0,
-            count: 0,
-        };
+        return refused(number);
     }
     let seats = desk.seats;
-    let mask = look::mask_of(seats[c], i);
+    counted(look::mask_of(seats[c], i))
+}
+
+// What could replace the choice of one feature, and how many options these are.
+pub fn alternatives(desk: Desk, board: &[u8], sizes: &[u8], rules: &[u16], c: usize, i: usize) -> Left
+    ensures { λ r. ⌜ ReadsAs
+        (performed (now (sizes .entry)) (now (rules .entry)) desk (now (board .entry)) (asks c (Read (Alternatives i))))
+        (roomOf desk (now (board .entry))) r ⌝ }
+{
+    let asking = Asking::Read(Reading::Alternatives { feature: i });
+    let number = checks::number(asking, desk, board.len(), sizes, rules, c);
+    if number != 0 {
+        return refused(number);
+    }
+    let seats = desk.seats;
+    counted(look::alternatives_of(seats[c], i))
+}
+
+fn refused(number: u8) -> Left
+    ensures { λ r. ⌜ leftAnswer r ≡ refused number ⌝ }
+{
+    Left {
+        number,
+        mask: 0,
+        count: 0,
+    }
+}
+
+// A mask that is read, and how many bits are set in it.
+fn counted(mask: u16) -> Left
+    ensures { λ r. ⌜ leftAnswer r ≡ maskAnswer mask ⌝ }
+{
     Left {
         number: 0,
         mask,
