@@ -17,6 +17,7 @@ pub use calls::enter;
 pub use calls::leave;
 pub use calls::open;
 pub use calls::relax;
+pub use reading::alternatives;
 pub use reading::example;
 pub use reading::example_number;
 pub use reading::options;

@@ -8,7 +8,7 @@ use Rattle.runs.specs.Call.{asks}
 use Rattle.runs.specs.RefusalTable.{refusal}
 use Rattle.runs.proofs.AcceptedCalls.{AcceptedAsking, accepted}
 use Rattle.runs.proofs.OneSeat.{refused-call, own-share-length, one-seat}
-use Rattle.desk.proofs.Placed.{placeable}
+use Rattle.desk.proofs.Placed.{placeable, have-bits}
 use Rattle.desk.proofs.calls.ask.Statement.{statement}
 use Rattle.desk.proofs.calls.ask.Tie as tie
 
@@ -55,9 +55,8 @@ part-clinic-after-end c = omega (arith, below (c .before .before), passed (c .be
 clinic-after-requires : tie.Need-clinic-after-requires
 clinic-after-requires c κs =
     let call = passed (c .before .before .before) in (
-      own-share-length _ _ _ _ (not-refused (c .before .before .before)),
-      first-has-option _ (call .checks .faultless),
-      placeable _ call,
+      (own-share-length _ _ _ _ (not-refused (c .before .before .before)), first-has-option _ (call .checks .faultless)),
+      (placeable _ call, have-bits _ call),
     )
 
 with-seat-requires : tie.Need-with-seat-requires
