@@ -39,7 +39,14 @@ pub fn seat_fits(seat: Seat, sizes: &[u8], rules: &[u16]) -> bool
             if !place_fits(place, sizes, rules) {
                 return false;
             }
-            open_fits(&choices, &masks, &alternatives, &trial, place.depth as usize, sizes)
+            open_fits(
+                &choices,
+                &masks,
+                &alternatives,
+                &trial,
+                place.depth as usize,
+                sizes,
+            )
         }
     }
 }

@@ -27,7 +27,14 @@ pub fn options(desk: Desk, board: &[u8], sizes: &[u8], rules: &[u16], c: usize, 
 }
 
 // What could replace the choice of one feature, and how many options these are.
-pub fn alternatives(desk: Desk, board: &[u8], sizes: &[u8], rules: &[u16], c: usize, i: usize) -> Left
+pub fn alternatives(
+    desk: Desk,
+    board: &[u8],
+    sizes: &[u8],
+    rules: &[u16],
+    c: usize,
+    i: usize,
+) -> Left
     ensures { λ r. ⌜ ReadsAs
         (performed (now (sizes .entry)) (now (rules .entry)) desk (now (board .entry)) (asks c (Read (Alternatives i))))
         (roomOf desk (now (board .entry))) r ⌝ }

@@ -105,8 +105,8 @@ fn step_at(
     }
 }
 
-// What comes of trying the option decides: the search goes on, or the pair ends. A build that is found is written as the
-// example, but for one at a feature chosen otherwise: its option is no more than an alternative.
+// What comes of trying the option decides: the search goes on, or the pair ends. A build that is found is written as
+// the example, but for one at a feature chosen otherwise: its option is no more than an alternative.
 fn after_step(
     place: Place,
     choices: &[u8],

@@ -1,4 +1,5 @@
--- An asking whose numbers have a place in a seat's record: a feature among sixteen, an option that a mask has a bit for.
+-- An asking whose numbers have a place in a seat's record: a feature among sixteen, an option that a mask has a bit
+-- for.
 use Prim.Native.Nat.{ℕ, _<_}
 use mathlib.Core.Path.{_≡_}
 use mathlib.Core.List.{List}

@@ -55,7 +55,8 @@ pub record TryNeeds (catalogue : Catalogue) (place : Place) (choices placed plac
 abbrev pub recordAfter : After → Place → List ℕ → Seat → Seat
 recordAfter after place placed seat =
     seatWith (after .state) (masksWith (after .left) (place .feature) (place .option) (seat .masks))
-    (masksWith (after .alternative) (place .feature) (place .option) (seat .alternatives)) (keptBefore (after .depth) placed) seat
+    (masksWith (after .alternative) (place .feature) (place .option) (seat .alternatives))
+    (keptBefore (after .depth) placed) seat
 
 -- what a step comes to, for whichever record has these choices and this trial, whatever its masks; and the share after it
 abbrev pub ComesTo : Catalogue → Place → List ℕ → List ℕ → List ℕ → After → List ℕ → Type 0

@@ -1,5 +1,5 @@
--- All masks passed have bits for options that could replace the choice of their feature alone. The first with another bit
--- ends the loop.
+-- All masks passed have bits for options that could replace the choice of their feature alone. The first with another
+-- bit ends the loop.
 use Prim.Native.Nat.{_-_, _≤_}
 use mathlib.Core.Path.{_≡_, refl, sym, _∙_}
 use mathlib.Core.Bool.{true}

@@ -1,4 +1,5 @@
--- What the state asks decides, or what every state asks; a closed seat is empty, and choices masks and alternatives that are empty fit.
+-- What the state asks decides, or what every state asks; a closed seat is empty, and choices, masks and alternatives
+-- that are empty fit.
 use Prim.Native.Nat.{ℕ, zero, suc, _<_, _^_}
 use mathlib.Core.Path.{_≡_, refl, sym, ap, _∙_}
 use mathlib.Core.Bool.{Bool, true, false, _&&_, and-eq-true-iff}

@@ -1,5 +1,5 @@
--- What comes of trying the option decides: the search goes on, or the pair ends, with an example, with an alternative or
--- without a build. The place that fits the catalogue gives the bounds that the callees ask for.
+-- What comes of trying the option decides: the search goes on, or the pair ends, with an example, with an alternative
+-- or without a build. The place that fits the catalogue gives the bounds that the callees ask for.
 use Prim.Native.Nat.{ℕ, _≤_, _<_}
 use mathlib.Core.Path.{_≡_, refl, sym, _∙_}
 use mathlib.Core.Bool.{Bool, true, false}
