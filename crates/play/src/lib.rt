@@ -65,6 +65,10 @@ fn one_call(
             desk::example_number(desk, board, sizes, rules, c, i, a);
             desk
         }
+        6 => {
+            desk::alternatives(desk, board, sizes, rules, c, i);
+            desk
+        }
         _ => desk::turns(desk, board, sizes, rules, who).desk,
     }
 }

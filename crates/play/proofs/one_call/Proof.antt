@@ -1,7 +1,7 @@
 -- Each number makes the call that it says, and desk and board are those of the call's outcome; a call that reads leaves
 -- both as they are.
-use Prim.Native.Nat.{_≤_}
-use mathlib.Core.Path.{sym, ap}
+use Prim.Native.Nat.{ℕ, _≤_}
+use mathlib.Core.Path.{_≡_, sym, ap}
 use native.Mathlib.Omega.{arith}
 use borrow.Author.Needs.{needs}
 use Rattle.runs.specs.Room.{Room}
@@ -31,6 +31,9 @@ options-requires c κs = search needs
 
 example-number-requires : tie.Need-example-number-requires
 example-number-requires c κs = search needs
+
+alternatives-requires : tie.Need-alternatives-requires
+alternatives-requires c κs = search needs
 
 turns-requires : tie.Need-turns-requires
 turns-requires c κs = search needs
@@ -82,16 +85,29 @@ returns-6 c = rw (c .before .before .match .keys6) (sym (reading-stays _ _ _ _))
 same-length-7 : tie.Need-same-length-7
 same-length-7 c = search needs
 
--- a number that none of the six arms names
-from-six : (p : tie.At-match-rest) → 6 ≤ p .before .before .before .before .args .kind
-from-six p =
+returns-7 : tie.Need-returns-7
+returns-7 c = rw (c .before .before .match .keys7) (ap room-of (c .alternatives .ensures))
+
+same-length-8 : tie.Need-same-length-8
+same-length-8 c = search needs
+
+-- in two parts, since `omega` takes six cases at a time
+from-six : (kind : ℕ) → (kind ≡ 0 → ⊥) → (kind ≡ 1 → ⊥) → (kind ≡ 2 → ⊥) → (kind ≡ 3 → ⊥) → (kind ≡ 4 → ⊥) → (kind ≡ 5 → ⊥) → 6 ≤ kind
+from-six kind not-0 not-1 not-2 not-3 not-4 not-5 = omega arith
+
+and-seven : (kind : ℕ) → 6 ≤ kind → (kind ≡ 6 → ⊥) → 7 ≤ kind
+and-seven kind six not-6 = omega arith
+
+-- a number that none of the seven arms names
+from-seven : (p : tie.At-match-rest) → 7 ≤ p .before .before .before .before .args .kind
+from-seven p =
     let rest = p .match .rest in
     let low = rest .0 .0 .0 in
-    omega (arith, rest .1, rest .0 .1, rest .0 .0 .1, low .1, low .0 .1, low .0 .0 .1)
+    and-seven _ (from-six _ (low .0 .0 .0 .1) (low .0 .0 .1) (low .0 .1) (low .1) (rest .0 .0 .1) (rest .0 .1)) (rest .1)
 
-returns-7 : tie.Need-returns-7
-returns-7 c =
-    rw (other-kind _ _ _ _ (from-six (c .before .before .before .before .before)))
+returns-8 : tie.Need-returns-8
+returns-8 c =
+    rw (other-kind _ _ _ _ (from-seven (c .before .before .before .before .before)))
     (ap room-of (c .before .before .before .turns .ensures))
 
 pub one-call-spec : {M : Type 1} → statement M
@@ -104,6 +120,7 @@ one-call-spec =
     relax-requires
     options-requires
     example-number-requires
+    alternatives-requires
     turns-requires
     same-length
     returns
@@ -118,4 +135,6 @@ one-call-spec =
     same-length-6
     returns-6
     same-length-7
-    returns-7)
+    returns-7
+    same-length-8
+    returns-8)
