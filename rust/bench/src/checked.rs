@@ -1,4 +1,4 @@
-//! The second plain version: the same call as the desk's. Board, catalogue and record are handed over at every call and
+//! The second plain version: the same calls as the desk's. Board, catalogue and record are handed over at every call and
 //! checked in the paper's order, and the rules tested at each feature are found anew. Nothing is allocated.
 
 use crate::seat::{Place, Rules, Seat, State, BOARD, NONE, SHARE};
@@ -19,12 +19,48 @@ pub fn turns(
     w: u16,
 ) -> Result<(u16, bool), u8> {
     let board: &mut [u8; BOARD] = board.try_into().map_err(|_| 1)?;
+    let rules = checked_desk(desk, sizes, rules)?;
+    Ok(make_turns(desk, board, &rules, w))
+}
+
+/// What could replace the choice of feature i, as a mask, and how many options that are; or the refusal number.
+pub fn alternatives(
+    desk: &Desk,
+    board: &[u8],
+    sizes: &[u8],
+    rules: &[u16],
+    c: usize,
+    i: usize,
+) -> Result<(u16, u32), u8> {
+    if board.len() != BOARD {
+        return Err(1);
+    }
+    checked_desk(desk, sizes, rules)?;
+    let seat = desk.seats.get(c).ok_or(30)?;
+    match seat.state {
+        State::Closed => return Err(31),
+        State::AtWork(_) => return Err(33),
+        State::Ready => {}
+    }
+    if sizes.len() <= i {
+        return Err(34);
+    }
+    if seat.choices[i] == NONE {
+        return Err(38);
+    }
+    let mask = seat.alternatives[i];
+    Ok((mask, mask.count_ones()))
+}
+
+/// 10 to 20; else where the rules stand.
+#[inline]
+fn checked_desk<'a>(desk: &Desk, sizes: &'a [u8], list: &'a [u16]) -> Result<Found<'a>, u8> {
     let limits = checked_sizes(sizes)?;
-    let rules = Found::in_list(sizes, &limits, rules)?;
+    let rules = Found::in_list(sizes, &limits, list)?;
     if !fits(desk, &limits) {
         return Err(20);
     }
-    Ok(make_turns(desk, board, &rules, w))
+    Ok(rules)
 }
 
 /// On a board, with rules and a desk that passed the checks.
@@ -206,11 +242,15 @@ fn seat_fits(seat: &Seat, limits: &[u8; 16], masks: &[u16; 16]) -> bool {
     };
     let choice_fits = |f: usize| (seat.choices[f] == NONE) | (seat.choices[f] < limits[f]);
     let mask_fits = |f: usize| seat.masks[f] & !masks[f] == 0;
+    let alternatives_fit = |f: usize| match seat.choices[f] {
+        NONE => seat.alternatives[f] == 0,
+        _ => seat.alternatives[f] & !masks[f] == 0,
+    };
     let entry_fits = |f: usize| match f < depth {
         true => seat.trial[f] < limits[f],
         false => seat.trial[f] == NONE,
     };
-    every(choice_fits) && every(mask_fits) && every(entry_fits)
+    every(choice_fits) && every(mask_fits) && every(alternatives_fit) && every(entry_fits)
 }
 
 /// All sixteen are looked at, and none left out after a misfit: so one instruction looks at several.
@@ -245,13 +285,23 @@ impl<'a> Host<'a> {
         }
     }
 
-    /// A job for a seat that is closed and has an empty share.
     pub fn enter(&mut self, c: usize) {
-        self.desk.seats[c].start_pair(0, 0);
+        self.post(c, [NONE; 16]);
+    }
+
+    /// A job for a seat under some choices.
+    pub fn post(&mut self, c: usize, choices: [u8; 16]) {
+        self.board[c * SHARE..(c + 1) * SHARE].fill(NONE);
+        self.desk.seats[c] = Seat::post(choices);
     }
 
     pub fn turns(&mut self, w: u16) -> (u16, bool) {
         let (sizes, rules) = (self.catalogue.sizes(), self.catalogue.rule_list());
         turns(&mut self.desk, &mut self.board, sizes, rules, w).expect("turns refused")
+    }
+
+    pub fn alternatives(&self, c: usize, i: usize) -> Result<(u16, u32), u8> {
+        let (sizes, rules) = (self.catalogue.sizes(), self.catalogue.rule_list());
+        alternatives(&self.desk, &self.board, sizes, rules, c, i)
     }
 }

@@ -2,7 +2,7 @@
 
 use crate::checked;
 use crate::ffi::{self, DeskRecord, SeatRecord};
-use crate::seat::{Place, Seat, State, BOARD};
+use crate::seat::{Place, Seat, State, BOARD, NONE, SHARE};
 use crate::Catalogue;
 
 pub struct Desk<'a> {
@@ -30,10 +30,29 @@ impl<'a> Desk<'a> {
         entered.number
     }
 
+    /// The refusal number; the desk is as it came where it is not 0.
+    pub fn choose(&mut self, c: usize, i: usize, a: usize) -> u8 {
+        let chosen = ffi::choose(self.record, &mut self.board, self.catalogue, c, i, a);
+        self.record = chosen.desk;
+        chosen.number
+    }
+
+    /// A seat's job as its caller writes it into the record: by calls alone a job under choices comes only after a whole
+    /// one under none.
+    pub fn post(&mut self, c: usize, choices: [u8; 16]) {
+        self.board[c * SHARE..(c + 1) * SHARE].fill(NONE);
+        self.record.seats[c] = record_of(Seat::post(choices));
+    }
+
     /// Number, mask and count.
     pub fn options(&self, c: usize, i: usize) -> (u8, u16, u32) {
         let left = ffi::options(self.record, &self.board, self.catalogue, c, i);
         (left.number, left.mask, left.count)
+    }
+
+    /// Mask and count; or the refusal number.
+    pub fn alternatives(&self, c: usize, i: usize) -> Result<(u16, u32), u8> {
+        alternatives(&self.record, &self.board, self.catalogue, c, i)
     }
 
     /// The turns made, and whether a seat is still at work.
@@ -53,6 +72,21 @@ pub fn turns(
     *desk = turned.desk;
     match turned.number {
         0 => Ok((turned.made, turned.working != 0)),
+        number => Err(number),
+    }
+}
+
+/// Mask and count; or the refusal number.
+pub fn alternatives(
+    desk: &DeskRecord,
+    board: &[u8],
+    catalogue: &Catalogue,
+    c: usize,
+    i: usize,
+) -> Result<(u16, u32), u8> {
+    let left = ffi::alternatives(*desk, board, catalogue, c, i);
+    match left.number {
+        0 => Ok((left.mask, left.count)),
         number => Err(number),
     }
 }
@@ -82,5 +116,32 @@ fn plain_seat(seat: SeatRecord) -> Seat {
         choices: seat.choices,
         masks: seat.masks,
         trial: seat.trial,
+        alternatives: seat.alternatives,
+    }
+}
+
+/// A seat of plain Rust as the desk's callers have it.
+fn record_of(seat: Seat) -> SeatRecord {
+    let nowhere = Place {
+        feature: 0,
+        option: 0,
+        depth: 0,
+        next: 0,
+    };
+    let (state, place) = match seat.state {
+        State::Closed => (0, nowhere),
+        State::Ready => (1, nowhere),
+        State::AtWork(place) => (2, place),
+    };
+    SeatRecord {
+        state,
+        feature: place.feature,
+        option: place.option,
+        depth: place.depth,
+        next: place.next,
+        choices: seat.choices,
+        masks: seat.masks,
+        trial: seat.trial,
+        alternatives: seat.alternatives,
     }
 }

@@ -103,8 +103,8 @@ fn waits(families: &[Family]) -> Table {
 fn call_costs() -> Table {
     let title = "What a call costs, in microseconds: the checks, and the rules found once a call";
     let head =
-        "catalogue | numbers | turns(0) | turns(1) | options | enter, refused | turns(4,096) \
-                | turns(0) in it, %";
+        "catalogue | numbers | turns(0) | turns(1) | options | alternatives | enter, refused \
+                | turns(4,096) | turns(0) in it, %";
     let mut table = Table::new(title, head);
     let short = [
         trolley(),
@@ -121,6 +121,7 @@ fn call_costs() -> Table {
             calls.none,
             calls.one,
             calls.options,
+            calls.alternatives,
             calls.enter,
             calls.many,
         ];
@@ -243,6 +244,7 @@ fn main() -> std::io::Result<()> {
     let asked = |word: &str| std::env::args().any(|given| given == word);
     let families = all_families();
     same::same_refusals();
+    same::same_alternatives();
     for family in &families {
         for seats in [1, 8] {
             same::same_steps::<false>(family, seats);

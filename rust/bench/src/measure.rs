@@ -194,6 +194,7 @@ pub struct Calls {
     pub one: Duration,
     pub many: Duration, // turns(4,096)
     pub options: Duration,
+    pub alternatives: Duration,
     pub enter: Duration, // for an open seat: refused, so the checks alone
 }
 
@@ -203,6 +204,7 @@ pub fn calls(family: &Family) -> Calls {
         one: call_time(family, 300, |desk| drop(desk.turns(1))),
         many: call_time(family, 20, |desk| drop(desk.turns(4096))),
         options: call_time(family, 300, |desk| drop(desk.options(0, 0))),
+        alternatives: call_time(family, 300, |desk| drop(desk.alternatives(0, 0))),
         enter: call_time(family, 300, |desk| assert_eq!(desk.enter(0), 32)),
     }
 }

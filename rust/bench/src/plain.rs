@@ -95,11 +95,14 @@ impl<'a, const BY_FIRST: bool> Desk<'a, BY_FIRST> {
         }
     }
 
-    /// A job for a seat that has no choice.
     pub fn enter(&mut self, c: usize) {
+        self.post(c, [NONE; 16]);
+    }
+
+    /// A job for a seat under some choices.
+    pub fn post(&mut self, c: usize, choices: [u8; 16]) {
         self.board[c * SHARE..(c + 1) * SHARE].fill(NONE);
-        self.seats[c] = Seat::CLOSED;
-        self.seats[c].start_pair(0, 0);
+        self.seats[c] = Seat::post(choices);
     }
 
     fn first_at_work(&self) -> Option<(usize, Place)> {

@@ -3,15 +3,57 @@
 
 use crate::families::{trolley, Family};
 use crate::ffi::DeskRecord;
-use crate::seat::{BOARD, NONE};
+use crate::seat::{Seat, BOARD, NONE};
 use crate::{checked, door, measure, plain, Catalogue};
 
-/// After each of some calls, answers, records and boards are equal.
+/// After each of some calls, answers, records and boards are equal: while seats work on their first jobs, and then on jobs
+/// under choices.
 pub fn same_steps<const BY_FIRST: bool>(family: &Family, seats: usize) {
     let grouped = plain::Grouped::<BY_FIRST>::new(&family.catalogue);
     let mut desk = measure::busy_desk(family, seats);
     let mut plain = measure::busy_plain(&grouped, seats);
     let mut checked = measure::busy_checked(family, seats);
+    same_turns(family, &mut desk, &mut plain, &mut checked);
+    for c in 0..seats {
+        let choices = some_choices(family.catalogue.sizes(), c);
+        desk.post(c, choices);
+        plain.post(c, choices);
+        checked.post(c, choices);
+    }
+    same_turns(family, &mut desk, &mut plain, &mut checked);
+    for (c, i) in places(family) {
+        assert_eq!(
+            desk.alternatives(c, i),
+            checked.alternatives(c, i),
+            "{}: alternatives",
+            family.name
+        );
+    }
+}
+
+/// Choices at a third of the features, other ones for each seat.
+fn some_choices(sizes: &[u8], c: usize) -> [u8; 16] {
+    let mut choices = [NONE; 16];
+    for (f, &size) in sizes.iter().enumerate() {
+        if (f + c) % 3 == 0 {
+            choices[f] = (5 * f + c) as u8 % size;
+        }
+    }
+    choices
+}
+
+/// The seats and features, with one too many of each.
+fn places(family: &Family) -> impl Iterator<Item = (usize, usize)> {
+    let features = family.catalogue.sizes().len();
+    (0..=8).flat_map(move |c| (0..=features).map(move |i| (c, i)))
+}
+
+fn same_turns<const BY_FIRST: bool>(
+    family: &Family,
+    desk: &mut door::Desk,
+    plain: &mut plain::Desk<BY_FIRST>,
+    checked: &mut checked::Host,
+) {
     for w in (0..64).chain([0, 999, 65535, 65535, 1, 65535]) {
         let answer = desk.turns(w);
         let record = door::plain_desk(&desk.record);
@@ -29,7 +71,57 @@ pub fn same_steps<const BY_FIRST: bool>(family: &Family, seats: usize) {
     }
 }
 
-/// A call of turns that is refused.
+/// On the trolley: choosing posts the same job, its end shows the paper's masks, and what could replace a choice is
+/// answered alike, with each number from 30 on that the call can give; also of records that no search would leave.
+pub fn same_alternatives() {
+    let trolley = trolley();
+    let mut desk = door::Desk::open(&trolley.catalogue);
+    desk.enter(2);
+    desk.turns(65535);
+    assert_eq!(desk.choose(2, 2, 0), 0);
+    let mut choices = [NONE; 16];
+    choices[2] = 0;
+    assert_eq!(door::plain_desk(&desk.record).seats[2], Seat::post(choices));
+    assert_eq!(desk.turns(65535), (43, false));
+    let ready = door::plain_desk(&desk.record).seats[2];
+    assert_eq!(
+        (&ready.masks[..3], &ready.alternatives[..3]),
+        (&[2, 5, 1][..], &[0, 0, 3][..])
+    );
+
+    let mut met = Vec::new();
+    for shown in [3, 2, 1, 0] {
+        let mut record = whole_desk();
+        record.seats[2].alternatives[2] = shown;
+        for (c, i) in places(&trolley) {
+            let answer = alternatives_of_both(&record, &desk.board, &trolley.catalogue, c, i);
+            met.push(answer.map_or_else(|number| number, |_| 0));
+            if (c, i) == (2, 2) {
+                assert_eq!(answer, Ok((shown, shown.count_ones())));
+            }
+        }
+    }
+    met.sort_unstable();
+    met.dedup();
+    assert_eq!(met, [0, 30, 31, 33, 34, 38]);
+}
+
+fn alternatives_of_both(
+    record: &DeskRecord,
+    board: &[u8],
+    catalogue: &Catalogue,
+    c: usize,
+    i: usize,
+) -> Result<(u16, u32), u8> {
+    let (sizes, rules) = (catalogue.sizes(), catalogue.rule_list());
+    let answer = door::alternatives(record, board, catalogue, c, i);
+    let plain = door::plain_desk(record);
+    let checked_answer = checked::alternatives(&plain, board, sizes, rules, c, i);
+    assert_eq!(answer, checked_answer, "alternatives {} {}", c, i);
+    answer
+}
+
+/// A call of turns, or of alternatives, that is refused.
 struct Broken {
     fault: &'static str,
     board_length: usize,
@@ -66,7 +158,10 @@ fn number_of_both(call: &Broken) -> u8 {
     );
 
     assert_eq!(answer, checked_answer, "{}: answers", call.fault);
-    answer.expect_err(call.fault)
+    let number = answer.expect_err(call.fault);
+    let read = alternatives_of_both(&call.desk, &board, &call.catalogue, 9, 9);
+    assert_eq!(read, Err(number), "{}: alternatives", call.fault);
+    number
 }
 
 fn broken_calls() -> Vec<Broken> {
@@ -76,11 +171,14 @@ fn broken_calls() -> Vec<Broken> {
     calls
 }
 
-/// On the trolley, seat 2 is ready, seat 5 at work at depth 1 of its first pair, and the others are closed.
+/// On the trolley, seat 2 is ready with option 0 of feature 2 chosen, seat 5 at work at depth 1 of its first pair, and the
+/// others are closed.
 fn whole_desk() -> DeskRecord {
     let trolley = trolley();
     let mut desk = door::Desk::open(&trolley.catalogue);
     desk.enter(2);
+    desk.turns(65535);
+    desk.choose(2, 2, 0);
     desk.turns(65535);
     desk.enter(5);
     desk.turns(1);
@@ -187,6 +285,18 @@ fn broken_records() -> Vec<Broken> {
         edited("a mask for a missing feature", |desk| {
             desk.seats[2].masks[15] = 1
         }),
+        edited("an alternative that is no option", |desk| {
+            desk.seats[2].alternatives[2] = 4
+        }),
+        edited("an alternative where nothing is chosen", |desk| {
+            desk.seats[2].alternatives[0] = 2
+        }),
+        edited("an alternative for a missing feature", |desk| {
+            desk.seats[2].alternatives[15] = 1
+        }),
+        edited("an alternative at work where nothing is chosen", |desk| {
+            desk.seats[5].alternatives[1] = 1
+        }),
         edited("at work for a missing feature", |desk| {
             desk.seats[5].feature = 3
         }),
@@ -214,5 +324,8 @@ fn broken_records() -> Vec<Broken> {
             desk.seats[7].choices[0] = 1
         }),
         edited("a mask in a closed seat", |desk| desk.seats[7].masks[0] = 1),
+        edited("an alternative in a closed seat", |desk| {
+            desk.seats[7].alternatives[0] = 1
+        }),
     ]
 }

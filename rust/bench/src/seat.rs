@@ -26,6 +26,7 @@ pub struct Seat {
     pub choices: [u8; 16],
     pub masks: [u16; 16],
     pub trial: [u8; 16],
+    pub alternatives: [u16; 16],
 }
 
 /// What a step asks of a catalogue.
@@ -43,7 +44,23 @@ impl Seat {
         choices: [NONE; 16],
         masks: [0; 16],
         trial: [NONE; 16],
+        alternatives: [0; 16],
     };
+
+    /// A job under some choices, whose options count as alternatives from the start.
+    pub fn post(choices: [u8; 16]) -> Seat {
+        let in_force = |choice: u8| match choice {
+            NONE => 0,
+            option => 1 << option,
+        };
+        let mut seat = Seat {
+            choices,
+            alternatives: choices.map(in_force),
+            ..Seat::CLOSED
+        };
+        seat.start_pair(0, 0);
+        seat
+    }
 
     #[inline]
     fn first_candidate(&self, i: usize, a: u8, j: usize) -> u8 {
@@ -69,7 +86,7 @@ impl Seat {
     }
 
     #[inline]
-    pub fn start_pair(&mut self, feature: u8, option: u8) {
+    fn start_pair(&mut self, feature: u8, option: u8) {
         self.trial = [NONE; 16];
         self.state = State::AtWork(Place {
             feature,
@@ -115,23 +132,31 @@ impl Seat {
         }
     }
 
+    /// A build with option a at feature i: where another option is chosen an alternative, else an option left with its
+    /// example.
+    #[inline]
+    fn found(&mut self, i: usize, a: u8, share: &mut [u8]) {
+        let choice = self.choices[i];
+        if choice != NONE && choice != a {
+            self.alternatives[i] |= 1 << a;
+            return;
+        }
+        let at = i * 256 + usize::from(a) * 16;
+        share[at..at + 16].copy_from_slice(&self.trial);
+        self.masks[i] |= 1 << a;
+    }
+
     /// One step, for a seat at work.
     #[inline]
     pub fn step(&mut self, place: Place, rules: &impl Rules, share: &mut [u8]) {
         let sizes = rules.sizes();
         let (i, j) = (usize::from(place.feature), usize::from(place.depth));
-        let choice = self.choices[i];
-        if choice != NONE && choice != place.option {
-            return self.end_pair(sizes, place.feature, place.option);
-        }
         self.trial[j] = place.next;
         if !rules.passed(j, &self.trial) {
             return self.give_up(sizes, place);
         }
         if j + 1 == sizes.len() {
-            let at = i * 256 + usize::from(place.option) * 16;
-            share[at..at + 16].copy_from_slice(&self.trial);
-            self.masks[i] |= 1 << place.option;
+            self.found(i, place.option, share);
             return self.end_pair(sizes, place.feature, place.option);
         }
         self.state = State::AtWork(Place {
