@@ -1,7 +1,11 @@
+use crate::ffi::Left;
+use crate::Refusal;
 use std::fmt;
 use std::iter::FusedIterator;
 
-/// The options left of one feature: those that some build has which satisfies every rule and every choice in force.
+/// Options of one feature: of [`Desk::options`](crate::Desk::options) those left, which some build has that satisfies every
+/// rule and every choice in force; of [`Desk::alternatives`](crate::Desk::alternatives) those that could replace its choice,
+/// which some build has that satisfies every rule and every other choice.
 ///
 /// ```
 /// use nethazel::{Catalogue, Desk};
@@ -17,7 +21,7 @@ use std::iter::FusedIterator;
 /// # Ok::<(), nethazel::Refusal>(())
 /// ```
 ///
-/// Where no option is left it is shown as `-`.
+/// Where there is no option it is shown as `-`.
 #[derive(Clone, Copy, Debug, PartialEq, Eq, Hash)]
 pub struct OptionsLeft {
     pub(crate) mask: u16,
@@ -25,17 +29,25 @@ pub struct OptionsLeft {
 }
 
 impl OptionsLeft {
-    /// Bit `a` is set for an option `a` that is left.
+    pub(crate) fn answered(left: Left) -> Result<OptionsLeft, Refusal> {
+        Refusal::done(left.number)?;
+        Ok(OptionsLeft {
+            mask: left.mask,
+            count: left.count,
+        })
+    }
+
+    /// Bit `a` is set for an option `a` among them.
     pub fn mask(self) -> u16 {
         self.mask
     }
 
-    /// How many options are left.
+    /// How many options they are.
     pub fn count(self) -> u32 {
         self.count
     }
 
-    /// Whether the option is left.
+    /// Whether the option is among them.
     ///
     /// ```
     /// # let mut desk = nethazel::Desk::open(&nethazel::Catalogue::new(&[2]))?;
@@ -49,7 +61,7 @@ impl OptionsLeft {
         option < 16 && self.mask >> option & 1 == 1
     }
 
-    /// The options left, rising.
+    /// The options, rising.
     pub fn iter(self) -> OptionsIter {
         OptionsIter { mask: self.mask }
     }

@@ -176,11 +176,46 @@ impl Desk {
             seat,
             feature,
         );
-        Refusal::done(left.number)?;
-        Ok(OptionsLeft {
-            mask: left.mask,
-            count: left.count,
-        })
+        OptionsLeft::answered(left)
+    }
+
+    /// What could replace a feature's choice, in a ready seat: exactly the options that some build has which satisfies every
+    /// rule and every other choice in force. The option in force always counts. Once the choice is dropped, these are the
+    /// options left of the feature.
+    ///
+    /// # Errors
+    ///
+    /// 30, 31 and 33 for a seat that is not ready, 34 for a feature that is not in the catalogue, 38 for one that has no
+    /// choice.
+    ///
+    /// ```
+    /// use nethazel::{Catalogue, Desk, Refusal};
+    ///
+    /// // The first feature's option 0 goes with option 0 of the second alone; option 1 with 1 and 2.
+    /// let mut desk = Desk::open(&Catalogue::new(&[2, 3]).rule(&[0, 1], &[[0, 0], [1, 1], [1, 2]]))?;
+    /// desk.enter(3)?;
+    /// desk.turns(u16::MAX)?;
+    /// desk.choose(3, 0, 1)?;
+    /// desk.turns(u16::MAX)?;
+    /// desk.choose(3, 1, 2)?;
+    /// desk.turns(u16::MAX)?;
+    /// assert_eq!(desk.options(3, 1)?.to_string(), "2");
+    /// assert_eq!(desk.alternatives(3, 1)?.to_string(), "1,2"); // not 0: option 1 of feature 0 stays
+    /// desk.relax(3, 1)?;
+    /// desk.turns(u16::MAX)?;
+    /// assert_eq!(desk.options(3, 1)?.to_string(), "1,2");
+    /// assert_eq!(desk.alternatives(3, 1), Err(Refusal::FeatureHasNoChoice));
+    /// # Ok::<(), Refusal>(())
+    /// ```
+    pub fn alternatives(&self, seat: usize, feature: usize) -> Result<OptionsLeft, Refusal> {
+        let left = ffi::alternatives(
+            self.record,
+            self.board.bytes(),
+            &self.catalogue,
+            seat,
+            feature,
+        );
+        OptionsLeft::answered(left)
     }
 
     /// The example for an option that is left, in a ready seat: the first build in dictionary order with the option at the

@@ -14,6 +14,7 @@ pub struct SeatRecord {
     pub choices: [u8; 16],
     pub masks: [u16; 16],
     pub trial: [u8; 16],
+    pub alternatives: [u16; 16],
 }
 
 #[derive(Clone, Copy, Debug, PartialEq, Eq)]
@@ -114,6 +115,17 @@ extern "C" {
         seat: usize,
         feature: usize,
     ) -> Left;
+    fn nethazel_alternatives(
+        desk: DeskRecord,
+        board: *const u8,
+        board_length: usize,
+        sizes: *const u8,
+        sizes_length: usize,
+        rules: *const u16,
+        rules_length: usize,
+        seat: usize,
+        feature: usize,
+    ) -> Left;
     fn nethazel_example(
         desk: DeskRecord,
         board: *const u8,
@@ -204,6 +216,16 @@ pub fn options(
     call!(nethazel_options([desk] board.as_ptr(), catalogue, [seat, feature]))
 }
 
+pub fn alternatives(
+    desk: DeskRecord,
+    board: &[u8],
+    catalogue: &Catalogue,
+    seat: usize,
+    feature: usize,
+) -> Left {
+    call!(nethazel_alternatives([desk] board.as_ptr(), catalogue, [seat, feature]))
+}
+
 pub fn example(
     desk: DeskRecord,
     board: &[u8],
@@ -229,9 +251,9 @@ mod tests {
     fn records_are_laid_out_as_in_c() {
         assert_eq!(
             (size_of::<SeatRecord>(), size_of::<DeskRecord>()),
-            (70, 562)
+            (102, 818)
         );
-        assert_eq!((size_of::<Changed>(), size_of::<Turned>()), (564, 568));
+        assert_eq!((size_of::<Changed>(), size_of::<Turned>()), (820, 824));
         assert_eq!((size_of::<Left>(), size_of::<ExampleAt>()), (8, 24));
     }
 

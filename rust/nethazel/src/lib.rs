@@ -1,8 +1,8 @@
 //! Nethazel: a configurator desk for eight clinics, over an archive in which every call is proved.
 //!
 //! Eight clinics share one [`Desk`]. Each sits at a seat, chooses options of a product out of one [`Catalogue`], and sees
-//! exactly the options that still fit some complete product (a build), each with the first such build as example. What
-//! can't be done is a [`Refusal`], which has the paper's number.
+//! exactly the options that still fit some complete product (a build), each with the first such build as example; and of
+//! each choice it made, what could replace it. What can't be done is a [`Refusal`], which has the paper's number.
 //!
 //! The trolley has three features with 3, 3 and 2 options, and two rules. A clinic at seat 3 wants option 0 of feature 2:
 //!
@@ -22,6 +22,7 @@
 //!     while desk.turns(u16::MAX)?.working {}
 //!     assert_eq!(desk.options(3, 1)?.to_string(), "0,2"); // options 0 and 2 of feature 1
 //!     assert_eq!(desk.example(3, 1, 2)?[..3], [1, 2, 0]); // a build with option 2 of feature 1
+//!     assert_eq!(desk.alternatives(3, 2)?.to_string(), "0,1"); // option 1 of feature 2 could replace the choice
 //!
 //!     let refusal = desk.choose(3, 1, 1).unwrap_err();
 //!     assert_eq!(refusal, Refusal::OptionNotLeft);

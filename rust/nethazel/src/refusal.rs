@@ -56,7 +56,7 @@ pub enum Refusal {
     FeatureHasChoice = 36,
     /// The option is not left (choose and example).
     OptionNotLeft = 37,
-    /// The feature has no choice (relax).
+    /// The feature has no choice (relax and alternatives).
     FeatureHasNoChoice = 38,
 }
 
@@ -147,7 +147,7 @@ impl Refusal {
             Refusal::OptionNotLeft => {
                 "the option is not left: no build that the choices allow has it"
             }
-            Refusal::FeatureHasNoChoice => "the feature has no choice to drop",
+            Refusal::FeatureHasNoChoice => "the feature has no choice",
         }
     }
 }

@@ -125,6 +125,25 @@ impl<'desk> Seat<'desk> {
         &self.0.masks
     }
 
+    /// The sixteen masks of what could replace a choice: bit `a` for option `a`, and 0 where no choice is in force. At work
+    /// the option in force has its bit already; the others come as the search finds them.
+    ///
+    /// ```
+    /// use nethazel::{Catalogue, Desk};
+    ///
+    /// let mut desk = Desk::open(&Catalogue::new(&[3, 2]))?;
+    /// desk.enter(0)?;
+    /// desk.turns(u16::MAX)?;
+    /// desk.choose(0, 1, 1)?;
+    /// assert_eq!(desk.seat(0)?.alternatives()[..2], [0, 0b10]);
+    /// desk.turns(u16::MAX)?;
+    /// assert_eq!(desk.seat(0)?.alternatives()[..2], [0, 0b11]);
+    /// # Ok::<(), nethazel::Refusal>(())
+    /// ```
+    pub fn alternatives(self) -> &'desk [u16; 16] {
+        &self.0.alternatives
+    }
+
     /// The trial build: at work the options placed before the depth; 255 from there on, and in the other states.
     ///
     /// ```

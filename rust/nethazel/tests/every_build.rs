@@ -43,8 +43,10 @@ fn any_rule(chance: &mut Chance, sizes: &[u8]) -> Rule {
     Rule { features, rows }
 }
 
-/// All builds in dictionary order that satisfy every rule and have the choice, an option of a feature.
-fn builds(sizes: &[u8], rules: &[Rule], choice: Option<(usize, u8)>) -> Vec<Vec<u8>> {
+type Choice = (usize, u8); // an option of a feature
+
+/// All builds in dictionary order that satisfy every rule.
+fn builds(sizes: &[u8], rules: &[Rule]) -> Vec<Vec<u8>> {
     let mut builds = vec![vec![]];
     for &size in sizes {
         builds = builds
@@ -56,18 +58,29 @@ fn builds(sizes: &[u8], rules: &[Rule], choice: Option<(usize, u8)>) -> Vec<Vec<
         let at = |feature: &u16| u16::from(build[usize::from(*feature)]);
         let satisfies = |rule: &Rule| rule.rows.contains(&rule.features.iter().map(at).collect());
         rules.iter().all(satisfies)
-            && choice.map_or(true, |(feature, option)| build[feature] == option)
     });
     builds
 }
 
-/// Seat 5, ready, shows each option exactly when a build has it, with the first such build as example.
-fn compare(desk: &Desk, builds: &[Vec<u8>]) -> Result<(), Refusal> {
+/// The first build that has the option at the feature, and all the choices.
+fn first_with<'a>(
+    builds: &'a [Vec<u8>],
+    choices: &[Choice],
+    feature: usize,
+    option: u8,
+) -> Option<&'a Vec<u8>> {
+    let mut builds = builds.iter();
+    builds.find(|build| build[feature] == option && choices.iter().all(|&(at, a)| build[at] == a))
+}
+
+/// Seat 5, ready under the choices, shows each option exactly when a build has it with every choice, the first such build
+/// as example.
+fn compare_options(desk: &Desk, builds: &[Vec<u8>], choices: &[Choice]) -> Result<(), Refusal> {
     for (feature, &size) in desk.catalogue().sizes().iter().enumerate() {
         let left = desk.options(5, feature)?;
         assert_eq!(left.iter().count(), left.count() as usize);
         for option in 0..size {
-            let first = builds.iter().find(|build| build[feature] == option);
+            let first = first_with(builds, choices, feature, option);
             assert_eq!(left.has(option.into()), first.is_some());
             match first {
                 Some(build) => assert!(desk.example(5, feature, option.into())?.starts_with(build)),
@@ -81,8 +94,54 @@ fn compare(desk: &Desk, builds: &[Vec<u8>]) -> Result<(), Refusal> {
     Ok(())
 }
 
+fn without(choices: &[Choice], feature: usize) -> Vec<Choice> {
+    let mut others = choices.to_vec();
+    others.retain(|&(at, _)| at != feature);
+    others
+}
+
+/// As what could replace a choice it shows an option exactly when a build has it with every other choice.
+fn compare_alternatives(
+    desk: &Desk,
+    builds: &[Vec<u8>],
+    choices: &[Choice],
+) -> Result<(), Refusal> {
+    for (feature, &size) in desk.catalogue().sizes().iter().enumerate() {
+        let others = without(choices, feature);
+        if others.len() == choices.len() {
+            let refused = desk.alternatives(5, feature);
+            assert_eq!(refused, Err(Refusal::FeatureHasNoChoice));
+            continue;
+        }
+        let alternatives = desk.alternatives(5, feature)?;
+        assert_eq!(alternatives.iter().count(), alternatives.count() as usize);
+        for option in 0..size {
+            let first = first_with(builds, &others, feature, option);
+            assert_eq!(alternatives.has(option.into()), first.is_some());
+        }
+    }
+    Ok(())
+}
+
+fn compare(desk: &Desk, builds: &[Vec<u8>], choices: &[Choice]) -> Result<(), Refusal> {
+    compare_options(desk, builds, choices)?;
+    compare_alternatives(desk, builds, choices)
+}
+
+/// Once a choice is dropped, the options left of its feature are those that could have replaced it.
+fn compare_relaxed(desk: &Desk, builds: &[Vec<u8>], choices: &[Choice]) -> Result<(), Refusal> {
+    for &(feature, _) in choices {
+        let mut relaxed = desk.clone();
+        relaxed.relax(5, feature)?;
+        finish(&mut relaxed)?;
+        assert_eq!(relaxed.options(5, feature)?, desk.alternatives(5, feature)?);
+        compare(&relaxed, builds, &without(choices, feature))?;
+    }
+    Ok(())
+}
+
 #[test]
-fn options_and_examples_are_those_of_all_builds() -> Result<(), Refusal> {
+fn options_examples_and_alternatives_are_those_of_all_builds() -> Result<(), Refusal> {
     let mut chance = Chance(4711);
     for _ in 0..200 {
         let sizes: Vec<u8> = (0..=chance.below(5))
@@ -100,16 +159,20 @@ fn options_and_examples_are_those_of_all_builds() -> Result<(), Refusal> {
         let mut desk = Desk::open(&catalogue)?;
         desk.enter(5)?;
         finish(&mut desk)?;
-        compare(&desk, &builds(&sizes, &rules, None))?;
-        let feature = chance.below(sizes.len());
-        if let Some(option) = desk.options(5, feature)?.iter().last() {
-            desk.choose(5, feature, option)?;
-            finish(&mut desk)?;
-            compare(
-                &desk,
-                &builds(&sizes, &rules, Some((feature, option as u8))),
-            )?;
+        let builds = builds(&sizes, &rules);
+        let mut choices = Vec::new();
+        compare(&desk, &builds, &choices)?;
+        let mut features: Vec<usize> = (0..sizes.len()).collect();
+        while !features.is_empty() && choices.len() < 3 {
+            let feature = features.swap_remove(chance.below(features.len()));
+            if let Some(option) = desk.options(5, feature)?.iter().last() {
+                desk.choose(5, feature, option)?;
+                finish(&mut desk)?;
+                choices.push((feature, option as u8));
+                compare(&desk, &builds, &choices)?;
+            }
         }
+        compare_relaxed(&desk, &builds, &choices)?;
     }
     Ok(())
 }

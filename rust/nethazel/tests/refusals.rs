@@ -114,6 +114,7 @@ fn calls_are_refused_by_the_table() -> Result<(), Refusal> {
         assert_eq!(number(&|desk| desk.choose(seat, 99, 99).err()), expected);
         assert_eq!(number(&|desk| desk.relax(seat, 99).err()), expected);
         assert_eq!(number(&|desk| desk.options(seat, 99).err()), expected);
+        assert_eq!(number(&|desk| desk.alternatives(seat, 99).err()), expected);
         assert_eq!(number(&|desk| desk.example(seat, 99, 99).err()), expected);
     }
     assert_eq!(number(&|desk| desk.enter(8).err()), 30);
@@ -124,6 +125,8 @@ fn calls_are_refused_by_the_table() -> Result<(), Refusal> {
     assert_eq!(number(&|desk| desk.choose(2, 3, 99).err()), 34);
     assert_eq!(number(&|desk| desk.relax(2, 3).err()), 34);
     assert_eq!(number(&|desk| desk.options(2, 3).err()), 34);
+    assert_eq!(number(&|desk| desk.alternatives(2, 3).err()), 34);
+    assert_eq!(number(&|desk| desk.alternatives(2, usize::MAX).err()), 34);
     assert_eq!(number(&|desk| desk.example(2, 3, 0).err()), 34);
     assert_eq!(number(&|desk| desk.choose(2, 2, 2).err()), 35);
     assert_eq!(number(&|desk| desk.example(2, 2, 2).err()), 35);
@@ -132,6 +135,9 @@ fn calls_are_refused_by_the_table() -> Result<(), Refusal> {
     assert_eq!(number(&|desk| desk.choose(2, 1, 1).err()), 37);
     assert_eq!(number(&|desk| desk.example(2, 1, 1).err()), 37);
     assert_eq!(number(&|desk| desk.relax(2, 0).err()), 38);
+    assert_eq!(number(&|desk| desk.alternatives(2, 0).err()), 38);
+    assert_eq!(number(&|desk| desk.alternatives(2, 1).err()), 38);
+    assert_eq!(desk.alternatives(2, 2)?.mask(), 3);
     Ok(())
 }
 

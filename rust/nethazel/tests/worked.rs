@@ -79,8 +79,47 @@ fn p6_to_p8_the_pairs_take_their_steps() -> Result<(), Refusal> {
     desk.enter(3)?;
     assert_eq!(pair_steps(&mut desk)?, [5, 3, 5, 5, 4, 5, 8, 4]);
     desk.choose(3, 2, 0)?;
-    assert_eq!(pair_steps(&mut desk)?, [5, 3, 5, 5, 8, 5, 8, 1]);
+    assert_eq!(pair_steps(&mut desk)?, [5, 3, 5, 5, 8, 5, 8, 4]);
     assert_eq!(left(&desk)?, ["1", "0,2", "0"]);
+    Ok(())
+}
+
+#[test]
+fn both_options_of_the_chosen_feature_are_alternatives() -> Result<(), Refusal> {
+    let (mut desk, _) = entered(&trolley())?;
+    assert_eq!(desk.seat(3)?.alternatives(), &[0; 16]);
+    desk.choose(3, 2, 0)?;
+    assert_eq!(desk.seat(3)?.alternatives()[..3], [0, 0, 1]); // the option in force, from the start
+    assert_eq!(finish(&mut desk)?, 43);
+    assert_eq!(desk.seat(3)?.masks()[..3], [2, 5, 1]);
+    assert_eq!(desk.seat(3)?.alternatives()[..3], [0, 0, 3]);
+    let alternatives = desk.alternatives(3, 2)?;
+    assert_eq!((alternatives.mask(), alternatives.count()), (3, 2));
+    let no_example = &desk.board().share(3).unwrap()[2 * 256 + 16..][..16];
+    assert_eq!(no_example, [255; 16]); // option 1 could replace the choice, but it is not left
+    Ok(())
+}
+
+/// Source document 002's first example: three features of four options, all different.
+#[test]
+fn of_two_unequal_choices_neither_can_replace_the_other() -> Result<(), Refusal> {
+    let unequal: Vec<[u16; 2]> = (0..16)
+        .map(|pair| [pair / 4, pair % 4])
+        .filter(|row| row[0] != row[1])
+        .collect();
+    let catalogue = Catalogue::new(&[4, 4, 4])
+        .rule(&[1, 0], &unequal)
+        .rule(&[2, 0], &unequal)
+        .rule(&[2, 1], &unequal);
+    let (mut desk, _) = entered(&catalogue)?;
+    desk.choose(3, 0, 0)?;
+    finish(&mut desk)?;
+    assert_eq!(desk.alternatives(3, 0)?.to_string(), "0,1,2,3");
+    desk.choose(3, 1, 3)?;
+    finish(&mut desk)?;
+    assert_eq!(left(&desk)?, ["0", "3", "1,2"]);
+    assert_eq!(desk.alternatives(3, 0)?.to_string(), "0,1,2");
+    assert_eq!(desk.alternatives(3, 1)?.to_string(), "1,2,3");
     Ok(())
 }
 
@@ -127,9 +166,12 @@ fn a_relaxed_choice_brings_its_options_back() -> Result<(), Refusal> {
     let before = desk.clone();
     desk.choose(3, 2, 0)?;
     finish(&mut desk)?;
+    let shown = desk.alternatives(3, 2)?;
     desk.relax(3, 2)?;
     assert_eq!(desk.seat(3)?.masks(), &[0; 16]);
+    assert_eq!(desk.seat(3)?.alternatives(), &[0; 16]);
     finish(&mut desk)?;
+    assert_eq!(desk.options(3, 2)?, shown);
     assert_eq!(desk, before);
     Ok(())
 }
