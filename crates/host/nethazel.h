@@ -14,10 +14,11 @@
      desk = nethazel_turns(desk, LENT, 65535).desk;           // 39 turns are made; it's ready
      nethazel_left left = nethazel_options(desk, LENT, 3, 0); // of feature 0: mask 7, count 3, options 0, 1, 2
      desk = nethazel_choose(desk, LENT, 3, 2, 0).desk;        // feature 2 shall have option 0: at work again
-     desk = nethazel_turns(desk, LENT, 65535).desk;           // 40 turns
+     desk = nethazel_turns(desk, LENT, 65535).desk;           // 43 turns
      left = nethazel_options(desk, LENT, 3, 1);               // of feature 1: mask 5, count 2, options 0 and 2
      nethazel_example_at e = nethazel_example(desk, LENT, 3, 1, 2);
                                                               // board[e.from] on: 1, 2, 0, then thirteen times 255
+     left = nethazel_alternatives(desk, LENT, 3, 2);          // of feature 2: mask 3, count 2, options 0, chosen, and 1
 
    Every call takes any numbers and any desk, and says by a number what can't be done (the table below); number 0 means
    that it was done. A real host looks at the number of each answer.
@@ -33,9 +34,10 @@
 
    Memory. The library keeps nothing and allocates nothing: the caller owns all of it. A desk is a value, handed over and
    handed back; who has two values has two desks. Sizes and rules are lent for reading. The board is lent for writing to
-   open, enter, leave, choose, relax and turns, and must then overlap no other memory that is lent to the call; options and
-   example read it. Pointers are never NULL, also with length 0, and rules are aligned as uint16_t is. Hand desk and board
-   on together, from call to call, with one catalogue: a board that others wrote to shows what they wrote.
+   open, enter, leave, choose, relax and turns, and must then overlap no other memory that is lent to the call; options,
+   alternatives and example read it. Pointers are never NULL, also with length 0, and rules are aligned as uint16_t is.
+   Hand desk and board on together, from call to call, with one catalogue: a board that others wrote to shows what they
+   wrote.
 
    Threads. Nothing is shared between calls but what the caller lends. Two threads may call at the same time with two
    boards; with one board only where neither call writes it.
@@ -69,6 +71,8 @@ typedef struct {
     uint8_t choices[16]; /* the option chosen for each feature; 255 for none */
     uint16_t masks[16];  /* the options left of each feature: bit a for option a; of meaning once the seat is ready */
     uint8_t trial[16];   /* the options placed before `depth`; 255 from there on, and in the other states */
+    uint16_t alternatives[16]; /* what could replace each feature's choice: bit a for option a; 0 where it has none; of
+                                  meaning once the seat is ready */
 } nethazel_seat;
 
 typedef struct {
@@ -85,7 +89,7 @@ typedef struct {
 
 typedef struct {
     uint8_t number;
-    uint16_t mask;  /* the options left of the feature: bit a for option a */
+    uint16_t mask;  /* the options left of the feature, or its alternatives: bit a for option a */
     uint32_t count; /* how many bits are set */
 } nethazel_left;
 
@@ -111,20 +115,23 @@ typedef struct {
 
 /* In all calls c is a seat (0 to 7), i a feature and a an option.
 
-   open      the board filled with 255, all seats closed; a refused open answers such a desk too
-   enter     the closed seat gets a job
-   leave     an open seat, ready or at work, becomes closed
-   choose    sets one choice, and the seat gets a job
-   relax     drops one choice, and the seat gets a job
-   options   the options left of one feature of a ready seat
-   example   the first build in dictionary order with option a at feature i, for an option that is left
-   turns     w turns, or fewer when no seat is at work; each gives one waiting seat one step, around the ring */
+   open          the board filled with 255, all seats closed; a refused open answers such a desk too
+   enter         the closed seat gets a job
+   leave         an open seat, ready or at work, becomes closed
+   choose        sets one choice, and the seat gets a job
+   relax         drops one choice, and the seat gets a job
+   options       the options left of one feature of a ready seat
+   alternatives  what could replace the choice of one feature of a ready seat: the options of which some build satisfies
+                 all rules and all other choices, the option in force always among them
+   example       the first build in dictionary order with option a at feature i, for an option that is left
+   turns         w turns, or fewer when no seat is at work; each gives one waiting seat one step, around the ring */
 nethazel_changed nethazel_open(NETHAZEL_WRITTEN);
 nethazel_changed nethazel_enter(nethazel_desk desk, NETHAZEL_WRITTEN, size_t c);
 nethazel_changed nethazel_leave(nethazel_desk desk, NETHAZEL_WRITTEN, size_t c);
 nethazel_changed nethazel_choose(nethazel_desk desk, NETHAZEL_WRITTEN, size_t c, size_t i, size_t a);
 nethazel_changed nethazel_relax(nethazel_desk desk, NETHAZEL_WRITTEN, size_t c, size_t i);
 nethazel_left nethazel_options(nethazel_desk desk, NETHAZEL_READ, size_t c, size_t i);
+nethazel_left nethazel_alternatives(nethazel_desk desk, NETHAZEL_READ, size_t c, size_t i);
 nethazel_example_at nethazel_example(nethazel_desk desk, NETHAZEL_READ, size_t c, size_t i, size_t a);
 nethazel_turned nethazel_turns(nethazel_desk desk, NETHAZEL_WRITTEN, uint16_t w);
 
@@ -150,7 +157,7 @@ nethazel_turned nethazel_turns(nethazel_desk desk, NETHAZEL_WRITTEN, uint16_t w)
    35  option not below the size (choose, example)
    36  the feature has a choice (choose)
    37  option not left (choose, example)
-   38  the feature has no choice (relax)
+   38  the feature has no choice (relax, alternatives)
 
    Open makes checks 1 and 10 to 18 and nothing more, turns makes 1 to 20. */
 

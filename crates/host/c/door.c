@@ -4,8 +4,8 @@
 #include <string.h>
 #include "../nethazel.h"
 
-_Static_assert(sizeof(nethazel_seat) == 70 && sizeof(nethazel_desk) == 562, "the desk's layout");
-_Static_assert(sizeof(nethazel_changed) == 564 && sizeof(nethazel_turned) == 568, "the answers' layout");
+_Static_assert(sizeof(nethazel_seat) == 102 && sizeof(nethazel_desk) == 818, "the desk's layout");
+_Static_assert(sizeof(nethazel_changed) == 820 && sizeof(nethazel_turned) == 824, "the answers' layout");
 _Static_assert(sizeof(nethazel_left) == 8 && sizeof(nethazel_example_at) == 24, "the readings' layout");
 
 static uint8_t board[NETHAZEL_BOARD];
@@ -20,7 +20,8 @@ static int same_seat(const nethazel_seat *s, const nethazel_seat *t)
 {
     return s->state == t->state && s->feature == t->feature && s->option == t->option && s->depth == t->depth &&
            s->next == t->next && !memcmp(s->choices, t->choices, sizeof s->choices) &&
-           !memcmp(s->masks, t->masks, sizeof s->masks) && !memcmp(s->trial, t->trial, sizeof s->trial);
+           !memcmp(s->masks, t->masks, sizeof s->masks) && !memcmp(s->trial, t->trial, sizeof s->trial) &&
+           !memcmp(s->alternatives, t->alternatives, sizeof s->alternatives);
 }
 
 /* Field by field, since the records have a byte of padding each. */
@@ -41,7 +42,10 @@ static nethazel_desk any_desk(uint8_t state)
         nethazel_seat *s = &d.seats[c];
         s->state = c == 5 ? state : 2;
         s->feature = ++n, s->option = ++n, s->depth = ++n, s->next = ++n;
-        for (int f = 0; f < 16; f++) s->choices[f] = ++n, s->trial[f] = ++n, s->masks[f] = (uint16_t)(257 * ++n);
+        for (int f = 0; f < 16; f++) {
+            s->choices[f] = ++n, s->trial[f] = ++n;
+            s->masks[f] = (uint16_t)(257 * ++n), s->alternatives[f] = (uint16_t)(257 * ++n);
+        }
     }
     return d;
 }
@@ -59,6 +63,8 @@ static void refused_with_20(nethazel_desk d)
     changed = nethazel_relax(d, LENT, 9, 9);
     EXPECT(changed.number == 20 && same(changed.desk, d));
     nethazel_left left = nethazel_options(d, LENT, 9, 9);
+    EXPECT(left.number == 20 && left.mask == 0 && left.count == 0);
+    left = nethazel_alternatives(d, LENT, 9, 9);
     EXPECT(left.number == 20 && left.mask == 0 && left.count == 0);
     nethazel_example_at at = nethazel_example(d, LENT, 9, 9, 9);
     EXPECT(at.number == 20 && at.from == 0 && at.length == 0);
@@ -92,9 +98,21 @@ int main(void)
     nethazel_changed chosen = nethazel_choose(ready.desk, LENT, 3, 2, 0);
     EXPECT(chosen.number == 0 && chosen.desk.seats[3].choices[2] == 0);
     nethazel_turned again = nethazel_turns(chosen.desk, LENT, 65535);
-    EXPECT(again.made == 40 && nethazel_options(again.desk, LENT, 3, 0).count == 1);
+    EXPECT(again.made == 43 && nethazel_options(again.desk, LENT, 3, 0).count == 1);
+    nethazel_left could = nethazel_alternatives(again.desk, LENT, 3, 2);
+    EXPECT(could.number == 0 && could.mask == 3 && could.count == 2 && again.desk.seats[3].alternatives[2] == 3);
+    EXPECT(nethazel_alternatives(again.desk, LENT, 3, 1).number == 38);
+    EXPECT(nethazel_alternatives(again.desk, LENT, 3, 3).number == 34);
+    EXPECT(nethazel_alternatives(chosen.desk, LENT, 3, 2).number == 33 && chosen.desk.seats[3].alternatives[2] == 1);
+    nethazel_desk none_chosen = again.desk;
+    none_chosen.seats[3].alternatives[1] = 1;
+    refused_with_20(none_chosen);
+    nethazel_desk no_option = again.desk;
+    no_option.seats[3].alternatives[2] = 4;
+    refused_with_20(no_option);
     nethazel_changed relaxed = nethazel_relax(again.desk, LENT, 3, 2);
     EXPECT(relaxed.number == 0 && relaxed.desk.seats[3].choices[2] == NETHAZEL_NONE);
+    EXPECT(relaxed.desk.seats[3].alternatives[2] == 0);
     nethazel_changed left = nethazel_leave(relaxed.desk, LENT, 3);
     EXPECT(left.number == 0 && left.desk.seats[3].state == NETHAZEL_CLOSED && board[3 * 4096] == NETHAZEL_NONE);
     return failed;

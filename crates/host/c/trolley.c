@@ -1,5 +1,6 @@
 /* The listing program, over the door: on the trolley seat 3 enters, is turned until ready, chooses option 0 of feature 2
-   and is turned again. It prints a line for each feature: its number, the options left ("-" if none), their count. */
+   and is turned again. It prints a line for each feature: its number, the options left ("-" if none), their count. Then
+   it prints the same of what could replace the choice. */
 #include <stdio.h>
 #include <stdlib.h>
 #include "../nethazel.h"
@@ -16,10 +17,8 @@ static void done(const char *call, unsigned number)
     exit(1);
 }
 
-static void list(nethazel_desk desk, size_t i)
+static void print(size_t i, nethazel_left left)
 {
-    nethazel_left left = nethazel_options(desk, LENT, 3, i);
-    done("options", left.number);
     printf("%zu ", i);
     const char *before = "";
     for (unsigned a = 0; a < 16; a++) {
@@ -28,6 +27,13 @@ static void list(nethazel_desk desk, size_t i)
         before = ",";
     }
     printf("%s %u\n", left.mask ? "" : "-", (unsigned)left.count);
+}
+
+static void list(nethazel_desk desk, size_t i)
+{
+    nethazel_left left = nethazel_options(desk, LENT, 3, i);
+    done("options", left.number);
+    print(i, left);
 }
 
 int main(void)
@@ -43,5 +49,9 @@ int main(void)
     nethazel_turned again = nethazel_turns(chosen.desk, LENT, 65535);
     done("turns", again.number);
     for (size_t i = 0; i < 3; i++) list(again.desk, i);
+    nethazel_left could = nethazel_alternatives(again.desk, LENT, 3, 2);
+    done("alternatives", could.number);
+    printf("instead: ");
+    print(2, could);
     return 0;
 }

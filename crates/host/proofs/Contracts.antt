@@ -16,7 +16,7 @@ use mathlib.Core.List.{List}
 use lib.ListN.{take, drop}
 use Rattle.builds.specs.Catalogue.{catalogueOf}
 use Rattle.runs.specs.declared.Asking.the-variants.{Enter, Leave, Choose, Relax, Read}
-use Rattle.runs.specs.declared.Reading.the-variants.{Options, Example}
+use Rattle.runs.specs.declared.Reading.the-variants.{Options, Alternatives, Example}
 use Rattle.runs.specs.Call.{Call, asks, turns}
 use Rattle.runs.specs.Perform.{Outcome}
 use Rattle.reading.proofs.Contracts.{Always}
@@ -28,6 +28,7 @@ use Rattle.host.proofs.nethazel_leave as leave
 use Rattle.host.proofs.nethazel_choose as choose
 use Rattle.host.proofs.nethazel_relax as relax
 use Rattle.host.proofs.nethazel_options as options
+use Rattle.host.proofs.nethazel_alternatives as alternatives
 use Rattle.host.proofs.nethazel_example as example
 use Rattle.host.proofs.nethazel_turns as turning
 
@@ -75,6 +76,11 @@ module _ {M : Type 1} (𝓤 : URA M) (H : Heap 𝓤) (A : Atoms 𝓤) (mem : Mem
       let c = numbers handed .0 in let i = numbers handed .1 .0 in
       ⌜ hostLeftAnswer answer ≡ read handed (asks c (Read (Options i))) .answer ⌝)
   options-contract = refl
+
+  pub alternatives-contract : alternatives.spec 𝓤 H A mem run ≡ Always 𝓤 H A alternatives.ended (λ κs handed answer left.
+      let c = numbers handed .0 in let i = numbers handed .1 .0 in
+      ⌜ hostLeftAnswer answer ≡ read handed (asks c (Read (Alternatives i))) .answer ⌝)
+  alternatives-contract = refl
 
   pub example-contract : example.spec 𝓤 H A mem run ≡ Always 𝓤 H A example.ended (λ κs handed answer left.
       let c = numbers handed .0 in let i = numbers handed .1 .0 in let a = numbers handed .1 .1 .0 in

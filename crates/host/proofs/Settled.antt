@@ -6,7 +6,7 @@ use mathlib.Core.List.{List}
 use Rattle.builds.specs.Catalogue.{Catalogue}
 use Rattle.runs.specs.declared.Asking.{Asking}
 use Rattle.runs.specs.declared.Asking.the-variants.{Read}
-use Rattle.runs.specs.declared.Reading.the-variants.{Options, Example}
+use Rattle.runs.specs.declared.Reading.the-variants.{Options, Alternatives, Example}
 use Rattle.runs.specs.Call.{Answer, asks, turns}
 use Rattle.runs.proofs.Settled.{Settled, SettledWithBoard}
 use Rattle.host.specs.declared.records.HostDesk.{HostDesk}
@@ -16,7 +16,7 @@ use Rattle.host.specs.declared.records.HostExample.{HostExample}
 use Rattle.host.specs.declared.records.HostTurned.{HostTurned}
 use Rattle.host.specs.Door.{HostOutcome, inside, throughDoor, openedDoor, hostChangedOutcome, hostLeftAnswer, hostTurnedOutcome, exampleStands}
 
--- what the contracts of open, enter, leave, choose and relax say, then that of options, then that of turns
+-- what the contracts of open, enter, leave, choose and relax say, then those of options and alternatives, then that of turns
 abbrev pub ChangesTo : HostOutcome → HostChanged → List ℕ → Type 0
 ChangesTo outcome r board = hostChangedOutcome r board ≡ outcome
 
@@ -68,6 +68,9 @@ module _ (catalogue : Catalogue) (given : HostDesk) (board : List ℕ) where
 
     pub options-settled : (i : ℕ) → Settled (ReadsAs (inside catalogue (asks c (Read (Options i))) given board .answer))
     options-settled i = one-reading (inside catalogue (asks c (Read (Options i))) given board .answer)
+
+    pub alternatives-settled : (i : ℕ) → Settled (ReadsAs (inside catalogue (asks c (Read (Alternatives i))) given board .answer))
+    alternatives-settled i = one-reading (inside catalogue (asks c (Read (Alternatives i))) given board .answer)
 
     module _ (i a : ℕ) where
       abbrev pub exampleNumber : ℕ

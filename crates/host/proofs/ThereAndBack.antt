@@ -18,16 +18,16 @@ use Rattle.host.specs.declared.records.HostDesk.{HostDesk}
 use Rattle.host.specs.Records.{deskSeatOf, allKnown, deskOf, hostSeatIn, hostSeatOf, hostDeskOf}
 use Rattle.host.specs.Tidy.{TidySeat, atWork, elsewhere, Tidy}
 
--- field by field: a host sees the seat's own choices, masks and trial, and 0, 1 and 2 for its state
+-- field by field: a host sees the seat's own choices, masks, trial and alternatives, and 0, 1 and 2 for its state
 pub fields-shown : (seat : Seat) → (hostSeatOf seat .choices ≡ seat .choices) × (hostSeatOf seat .masks ≡ seat .masks)
-    × (hostSeatOf seat .trial ≡ seat .trial)
+    × (hostSeatOf seat .trial ≡ seat .trial) × (hostSeatOf seat .alternatives ≡ seat .alternatives)
 fields-shown seat = go (seat .state)
   where
     go : (state : State) → (hostSeatIn state seat .choices ≡ seat .choices) × (hostSeatIn state seat .masks ≡ seat .masks)
-        × (hostSeatIn state seat .trial ≡ seat .trial)
-    go Closed = (refl, refl, refl)
-    go Ready = (refl, refl, refl)
-    go (AtWork place) = (refl, refl, refl)
+        × (hostSeatIn state seat .trial ≡ seat .trial) × (hostSeatIn state seat .alternatives ≡ seat .alternatives)
+    go Closed = (refl, refl, refl, refl)
+    go Ready = (refl, refl, refl, refl)
+    go (AtWork place) = (refl, refl, refl, refl)
 
 pub states-shown : (seat : Seat) (place : Place)
     → (hostSeatIn Closed seat .state ≡ 0) × (hostSeatIn Ready seat .state ≡ 1) × (hostSeatIn (AtWork place) seat .state ≡ 2)

@@ -19,7 +19,13 @@ deskStateOf given =
     (AtWork (record { feature = given .feature; option = given .option; depth = given .depth; next = given .next })))
 
 abbrev pub deskSeatOf : HostSeat → Seat
-deskSeatOf given = record { state = deskStateOf given; choices = given .choices; masks = given .masks; trial = given .trial }
+deskSeatOf given = record {
+  state = deskStateOf given;
+  choices = given .choices;
+  masks = given .masks;
+  trial = given .trial;
+  alternatives = given .alternatives;
+}
 
 unfoldable pub allKnown : List HostSeat → Bool
 allKnown [] = true
@@ -39,6 +45,7 @@ hostSeat state place seat = record {
   choices = seat .choices;
   masks = seat .masks;
   trial = seat .trial;
+  alternatives = seat .alternatives;
 }
 
 abbrev pub nowhere : Place

@@ -82,11 +82,13 @@ fn desk_seat_of(given: HostSeat) -> Seat
     let choices = given.choices;
     let masks = given.masks;
     let trial = given.trial;
+    let alternatives = given.alternatives;
     Seat {
         state,
         choices,
         masks,
         trial,
+        alternatives,
     }
 }
 
@@ -131,6 +133,7 @@ fn host_seat(state: u8, place: Place, seat: Seat) -> HostSeat
     let choices = seat.choices;
     let masks = seat.masks;
     let trial = seat.trial;
+    let alternatives = seat.alternatives;
     HostSeat {
         state,
         feature: place.feature,
@@ -140,5 +143,6 @@ fn host_seat(state: u8, place: Place, seat: Seat) -> HostSeat
         choices,
         masks,
         trial,
+        alternatives,
     }
 }

@@ -19,7 +19,7 @@ ghost use mathlib.Core.Path.{_≡_};
 ghost use lib.ListN.{take, drop};
 ghost use Rattle.builds.specs.Catalogue.{catalogueOf};
 ghost use Rattle.runs.specs.declared.Asking.the-variants.{Enter, Leave, Choose, Relax, Read};
-ghost use Rattle.runs.specs.declared.Reading.the-variants.{Options, Example};
+ghost use Rattle.runs.specs.declared.Reading.the-variants.{Options, Alternatives, Example};
 ghost use Rattle.runs.specs.Call.{asks, turns};
 ghost use Rattle.host.specs.Door.{inside, throughDoor, openedDoor, hostChangedOutcome};
 ghost use Rattle.host.specs.Door.{hostLeftAnswer, hostTurnedOutcome, exampleStands};
@@ -118,6 +118,22 @@ pub extern "C" fn nethazel_options(
         given (now (board .entry)) .answer ⌝ }
 {
     left_back(desk::options(desk_of(given), board, sizes, rules, c, i))
+}
+
+#[no_mangle]
+pub extern "C" fn nethazel_alternatives(
+    given: HostDesk,
+    board: &[u8],
+    sizes: &[u8],
+    rules: &[u16],
+    c: usize,
+    i: usize,
+) -> HostLeft
+    ensures { λ r. ⌜ hostLeftAnswer r
+        ≡ inside (catalogueOf (now (sizes .entry)) (now (rules .entry))) (asks c (Read (Alternatives i)))
+        given (now (board .entry)) .answer ⌝ }
+{
+    left_back(desk::alternatives(desk_of(given), board, sizes, rules, c, i))
 }
 
 // Both of the desk's calls for an example in one: the number, and where the bytes stand that the desk hands out.

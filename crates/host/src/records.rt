@@ -9,6 +9,7 @@ pub struct HostSeat {
     pub choices: [u8; 16],
     pub masks: [u16; 16],
     pub trial: [u8; 16],
+    pub alternatives: [u16; 16],
 }
 
 #[repr(C)]

@@ -282,8 +282,38 @@ mod tests {
         assert_eq!((turned.number, turned.made, turned.working), (20, 0, 0));
         assert_eq!(turned.desk, unfit);
         assert_eq!(options(unfit, &board, &catalogue, 9, 9).number, 20);
+        assert_eq!(alternatives(unfit, &board, &catalogue, 9, 9).number, 20);
         let entered = enter(unfit, &mut board, &catalogue, 0);
         assert_eq!((entered.number, entered.desk), (20, unfit));
+    }
+
+    #[test]
+    fn an_alternative_that_is_no_option_or_replaces_nothing_is_refused_with_20() {
+        let catalogue = Catalogue::new(&[3, 3, 2]);
+        let mut board = [0; 32_768];
+        let opened = open(&mut board, &catalogue);
+        let entered = enter(opened.desk, &mut board, &catalogue, 0);
+        let ready = turns(entered.desk, &mut board, &catalogue, u16::MAX);
+        let chosen = choose(ready.desk, &mut board, &catalogue, 0, 2, 1);
+        let ready = turns(chosen.desk, &mut board, &catalogue, u16::MAX).desk;
+        assert_eq!(ready.seats[0].alternatives[..3], [0, 0, 3]);
+        for (seat, feature, mask, number) in [
+            (0, 2, 0, 0),
+            (0, 2, 3, 0),
+            (0, 2, 4, 20),
+            (0, 2, 1 << 15, 20),
+            (0, 1, 1, 20),
+            (0, 3, 1, 20),
+            (0, 15, 1, 20),
+            (7, 0, 1, 20),
+        ] {
+            let mut edited = ready;
+            edited.seats[seat].alternatives[feature] = mask;
+            let shown = alternatives(edited, &board, &catalogue, 0, 2);
+            assert_eq!(shown.number, number);
+            assert_eq!(shown.mask, if number == 0 { mask } else { 0 });
+            assert_eq!(turns(edited, &mut board, &catalogue, 1).desk, edited);
+        }
     }
 
     #[test]
