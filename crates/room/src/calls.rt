@@ -122,7 +122,12 @@ fn options(desk: Desk, board: &[u8], sizes: &[u8], rules: &[u16], asked: Asked) 
 
 fn alternatives(desk: Desk, board: &[u8], sizes: &[u8], rules: &[u16], asked: Asked) {
     let others = replacing(desk, board, sizes, rules, asked);
-    mask_answered(others, lengths(board, sizes, rules), asked, b" alternatives");
+    mask_answered(
+        others,
+        lengths(board, sizes, rules),
+        asked,
+        b" alternatives",
+    );
 }
 
 // A refusal answers no mask; were there one, it would be seen.

@@ -62,12 +62,12 @@ module _ (demand : EveryOpening) where
   -- a refused open, too, hands back a desk of closed seats
   closed : opening trolley [] .room .desk ≡ record {
     seats = replicate 8 (record {
-    state = Closed;
-    choices = replicate 16 255;
-    masks = replicate 16 0;
-    trial = replicate 16 255;
-    alternatives = replicate 16 0;
-  });
+      state = Closed;
+      choices = replicate 16 255;
+      masks = replicate 16 0;
+      trial = replicate 16 255;
+      alternatives = replicate 16 0;
+    });
     next = 0;
   }
   closed = demand trolley [] .all-closed
