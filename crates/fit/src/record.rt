@@ -13,6 +13,7 @@ ghost use Rattle.builds.specs.Lists.{everyBelow};
 ghost use Rattle.search.specs.RecordFits.{choiceFits, maskFits, replaceable, alternativesFit, emptyAt};
 ghost use Rattle.search.specs.RecordFits.{placeFits, seatFits, entryFits};
 ghost use Rattle.fit.specs.inner.Trial.{restFits, placedFits};
+ghost use Rattle.fit.specs.inner.Masks.{noBit};
 
 // Whether a record fits a catalogue without a fault. A closed seat is empty, and what is empty fits any sizes.
 pub fn seat_fits(seat: Seat, sizes: &[u8], rules: &[u16]) -> bool
@@ -29,7 +30,7 @@ pub fn seat_fits(seat: Seat, sizes: &[u8], rules: &[u16]) -> bool
             if !all_empty(&choices, &masks) {
                 return false;
             }
-            if !all_empty(&choices, &alternatives) {
+            if !none_set(&alternatives) {
                 return false;
             }
             trial_fits(&trial, 0, sizes)
@@ -114,6 +115,19 @@ fn masks_fit(masks: &[u16], sizes: &[u8]) -> bool
 
 // Each mask of alternatives has bits for options of its feature alone, and none where no choice is in force.
 fn alternatives_fit(choices: &[u8], alternatives: &[u16], sizes: &[u8]) -> bool
+    requires { ⌜ (length (now choices) ≡ 16) × (length (now alternatives) ≡ 16) × (sizesFault (now sizes) ≡ 0) ⌝ }
+    ensures { λ r. ⌜ r ≡ everyBelow 16
+        (alternativesFit (now (sizes .entry)) (now (choices .entry)) (now (alternatives .entry))) ⌝ }
+{
+    // A seat that has chosen nothing has none.
+    if none_set(alternatives) {
+        return true;
+    }
+    each_replaces(choices, alternatives, sizes)
+}
+
+// Mask by mask.
+fn each_replaces(choices: &[u8], alternatives: &[u16], sizes: &[u8]) -> bool
     requires { ⌜ (length (now choices) ≡ 16) × (length (now alternatives) ≡ 16) × (sizesFault (now sizes) ≡ 0) ⌝ }
     ensures { λ r. ⌜ r ≡ everyBelow 16
         (alternativesFit (now (sizes .entry)) (now (choices .entry)) (now (alternatives .entry))) ⌝ }
@@ -210,6 +224,22 @@ fn all_empty(choices: &[u8], masks: &[u16]) -> bool
         f += 1;
     }
     empty
+}
+
+// No bit in any mask. No early exit, so that all sixteen are compared at once.
+fn none_set(masks: &[u16]) -> bool
+    requires { ⌜ length (now masks) ≡ 16 ⌝ }
+    ensures { λ r. ⌜ r ≡ everyBelow 16 (noBit (now (masks .entry))) ⌝ }
+{
+    let mut none = true;
+    let mut f = 0usize;
+    while f < 16 {
+        if masks[f] != 0 {
+            none = false;
+        }
+        f += 1;
+    }
+    none
 }
 
 fn place_fits(place: Place, sizes: &[u8], rules: &[u16]) -> bool

@@ -1,80 +1,41 @@
--- All masks passed have bits for options that could replace the choice of their feature alone. The first with another
--- bit ends the loop.
-use Prim.Native.Nat.{_-_, _≤_}
-use mathlib.Core.Path.{_≡_, refl, sym, _∙_}
+-- Masks without a bit fit, whatever is chosen.
+use Prim.Native.Nat.{ℕ, _<_, _^_}
+use mathlib.Core.Path.{_≡_, sym, _∙_}
 use mathlib.Core.Bool.{true}
-use native.Mathlib.Omega.{arith}
+use mathlib.Core.List.{List}
 use borrow.Author.Needs.{needs}
-use borrow.Author.Tests.{not-true, not-false}
+use borrow.Author.Tests.{eqb-true, lt-ltb}
 use lib.ListN.{getD}
+use lib.Pow.{pow-pos}
 use Rattle.builds.specs.Lists.{everyBelow}
-use Rattle.search.specs.RecordFits.{alternativesFit}
-use Rattle.search.proofs.EveryBelow.{one-more, one-fails, all-passed}
-use Rattle.fit.proofs.SizeSmall.{replaceable-small}
+use Rattle.search.specs.RecordFits.{replaceable, alternativesFit}
+use Rattle.search.proofs.FitsInWords.{every-below, below-every}
+use Rattle.fit.specs.inner.Masks.{noBit}
 use Rattle.fit.proofs.record.alternatives_fit.Statement.{statement}
 use Rattle.fit.proofs.record.alternatives_fit.Tie as tie
 
-abbrev Inv-loop : tie.InvT-loop
-Inv-loop choices alternatives sizes f₀ f = (f ≤ 16) × (everyBelow f (alternativesFit sizes choices alternatives) ≡ true)
+none-fits : (sizes choices alternatives : List ℕ) → everyBelow 16 (noBit alternatives) ≡ true
+    → everyBelow 16 (alternativesFit sizes choices alternatives) ≡ true
+none-fits sizes choices alternatives none =
+    below-every (alternativesFit sizes choices alternatives) 16
+    (λ (f : ℕ) (l : f < 16).
+    lt-ltb (getD alternatives f 0) (2 ^ replaceable sizes choices f)
+    (rw (eqb-true (getD alternatives f 0) 0 (every-below (noBit alternatives) 16 none f l)) (pow-pos (replaceable sizes choices f))))
 
-abbrev μ-loop : tie.MeasureT-loop
-μ-loop choices alternatives sizes f₀ f = 16 - f
+none-set-requires : tie.Need-none-set-requires
+none-set-requires c κs = search needs
 
-loop-holds : tie.Need-loop-holds Inv-loop μ-loop
-unfolding everyBelow
-loop-holds c = (omega arith, refl)
-
-mul-bits-below : tie.Need-mul-bits-below Inv-loop μ-loop
-mul-bits-below c = search needs
-
-shared-slice-read-bits-below : tie.Need-shared-slice-read-bits-below Inv-loop μ-loop
-shared-slice-read-bits-below c = search needs
-
-options-at-requires : tie.Need-options-at-requires Inv-loop μ-loop
-options-at-requires c κs = search needs
-
-bits-below-requires : tie.Need-bits-below-requires Inv-loop μ-loop
-bits-below-requires c κs =
-    let start = c .before .before .before .before .before .before .before in
-    rw (c .options-at .ensures)
-    (replaceable-small (start .args .sizes .now) (start .pre .2) (c .before .before .before .loop .f) (start .args .choices .now))
-
--- the test of a turn is the definition's
-tested : (c : tie.After-bits-below Inv-loop μ-loop) → let a = c .before .before .before .before .before .before .before .before .args in
-    c .bits-below .result ≡ alternativesFit (a .sizes .now) (a .choices .now) (a .alternatives .now) (c .before .before .before .before .loop .f)
-tested c = rw (c .before .options-at .ensures) at (c .bits-below .ensures)
-
-returns : tie.Need-returns Inv-loop μ-loop
+returns : tie.Need-returns
 returns c =
-    sym (one-fails _ 16 (c .before .before .before .before .before .loop .f) (omega arith) (sym (tested (c .before)) ∙ not-true _ (c .if1 .taken)))
+    let a = c .before .before .before .before .before .args in
+    sym (none-fits (a .sizes .now) (a .choices .now) (a .alternatives .now) (sym (c .before .none-set .ensures) ∙ c .if1 .taken))
 
-add-f : tie.Need-add-f Inv-loop μ-loop
-add-f c = search needs
+each-replaces-requires : tie.Need-each-replaces-requires
+each-replaces-requires c κs = search needs
 
-loop-less : tie.Need-loop-less Inv-loop μ-loop
-loop-less c = search needs
-
-loop-again : tie.Need-loop-again Inv-loop μ-loop
-loop-again c =
-    let loop = c .before .before .before .before .before .loop in
-    (omega arith, one-more _ (loop .f) (loop .inv .1) (sym (tested (c .before)) ∙ not-false _ (c .if1 .left)))
-
-returns-2 : tie.Need-returns-2 Inv-loop μ-loop
-returns-2 c = sym (all-passed _ (c .before .loop .f) 16 (omega arith) (c .before .loop .inv .1))
+returns-2 : tie.Need-returns-2
+returns-2 c = c .each-replaces .ensures
 
 pub alternatives-fit-spec : {M : Type 1} → statement M
 alternatives-fit-spec =
-    tie.close
-    (tie.spec
-    Inv-loop
-    μ-loop
-    loop-holds
-    mul-bits-below
-    shared-slice-read-bits-below
-    options-at-requires
-    bits-below-requires
-    returns
-    add-f
-    loop-less
-    loop-again
-    returns-2)
+    tie.close (tie.spec none-set-requires returns each-replaces-requires returns-2)

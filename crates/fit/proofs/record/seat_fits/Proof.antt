@@ -18,6 +18,7 @@ use Rattle.search.specs.declared.State.the-variants.{Closed, Ready, AtWork}
 use Rattle.builds.specs.Lists.{everyBelow}
 use Rattle.search.specs.RecordFits.{choiceFits, maskFits, alternativesFit, entryFits, emptyAt, depthOf, stateFits, seatFits}
 use Rattle.search.proofs.FitsInWords.{every-below, below-every}
+use Rattle.fit.specs.inner.Masks.{noBit}
 use Rattle.fit.proofs.record.seat_fits.Statement.{statement}
 use Rattle.fit.proofs.record.seat_fits.Tie as tie
 
@@ -56,12 +57,12 @@ module _ (sizes choices masks : List ℕ) (empty : everyBelow 16 (emptyAt choice
       (λ (f : ℕ) (l : f < 16). lt-ltb (getD masks f 0) (2 ^ getD sizes f 0) (rw (eqb-true (getD masks f 0) 0 (empty-at f l .1)) (pow-pos (getD sizes f 0))))
 
   -- where no choice is in force, a mask of alternatives fits just where it is empty
-  alternatives-at : (alternatives : List ℕ) (f : ℕ) → f < 16 → alternativesFit sizes choices alternatives f ≡ emptyAt choices alternatives f
+  alternatives-at : (alternatives : List ℕ) (f : ℕ) → f < 16 → alternativesFit sizes choices alternatives f ≡ noBit alternatives f
   alternatives-at alternatives f l = rw (empty-at f l .0) (below-one (getD alternatives f 0))
 
   no-alternative-fits : (alternatives : List ℕ)
-      → everyBelow 16 (alternativesFit sizes choices alternatives) ≡ everyBelow 16 (emptyAt choices alternatives)
-  no-alternative-fits alternatives = same-below (alternativesFit sizes choices alternatives) (emptyAt choices alternatives) 16 (alternatives-at alternatives)
+      → everyBelow 16 (alternativesFit sizes choices alternatives) ≡ everyBelow 16 (noBit alternatives)
+  no-alternative-fits alternatives = same-below (alternativesFit sizes choices alternatives) (noBit alternatives) 16 (alternatives-at alternatives)
 
 module _ (catalogue : Catalogue) (seat : Seat) (state : State) (at : seat .state ≡ state) where
   abbrev entries : Bool
@@ -93,7 +94,7 @@ given start = record { sizes = start .args .sizes .now; list = start .args .rule
 -- a closed seat that has no choice and no option left goes on to its alternatives and its trial
 closed-left : (catalogue : Catalogue) (seat : Seat) → seat .state ≡ Closed → everyBelow 16 (emptyAt (seat .choices) (seat .masks)) ≡ true
     → seatFits catalogue seat
-    ≡ (everyBelow 16 (emptyAt (seat .choices) (seat .alternatives)) && everyBelow 16 (entryFits (catalogue .sizes) 0 (seat .trial)))
+    ≡ (everyBelow 16 (noBit (seat .alternatives)) && everyBelow 16 (entryFits (catalogue .sizes) 0 (seat .trial)))
 closed-left catalogue seat at empty =
     rw (
       no-choice-fits (catalogue .sizes) (seat .choices) (seat .masks) empty,
@@ -124,25 +125,22 @@ returns c =
 -- past the first test of a closed seat
 left-so : (c : tie.Else1) → let start = c .before .before .before .before .before .before .before .before .before .before .before .before in
     seatFits (given start) (start .args .seat)
-    ≡ (everyBelow 16 (emptyAt (start .args .seat .choices) (start .args .seat .alternatives))
+    ≡ (everyBelow 16 (noBit (start .args .seat .alternatives))
     && everyBelow 16 (entryFits (start .args .sizes .now) 0 (start .args .seat .trial)))
 left-so c =
     let start = c .before .before .before .before .before .before .before .before .before .before .before .before in
     closed-left (given start) (start .args .seat) (c .before .before .before .before .enum-told .given .1)
     (sym (c .before .all-empty .ensures) ∙ not-false _ (c .if1 .left))
 
-slice-aggregate-all-empty-3 : tie.Need-slice-aggregate-all-empty-3
-slice-aggregate-all-empty-3 c = search needs
+slice-aggregate-none-set : tie.Need-slice-aggregate-none-set
+slice-aggregate-none-set c = search needs
 
-slice-aggregate-all-empty-4 : tie.Need-slice-aggregate-all-empty-4
-slice-aggregate-all-empty-4 c = search needs
-
-all-empty-requires-2 : tie.Need-all-empty-requires-2
-all-empty-requires-2 c κs = search needs
+none-set-requires : tie.Need-none-set-requires
+none-set-requires c κs = search needs
 
 returns-2 : tie.Need-returns-2
 returns-2 c =
-    rw (sym (c .before .all-empty2 .ensures) ∙ not-true _ (c .if2 .taken)) at (sym (left-so (c .before .before .before .before)))
+    rw (sym (c .before .none-set .ensures) ∙ not-true _ (c .if2 .taken)) at (sym (left-so (c .before .before .before)))
 
 slice-aggregate-trial-fits : tie.Need-slice-aggregate-trial-fits
 slice-aggregate-trial-fits c = search needs
@@ -206,8 +204,8 @@ open-fits-requires-2 c κs =
 
 returns-4 : tie.Need-returns-4
 returns-4 c =
-    let empty = sym (c .before .before .before .all-empty2 .ensures) ∙ not-false _ (c .before .before .if2 .left) in
-    c .trial-fits .ensures ∙ sym (rw empty at (left-so (c .before .before .before .before .before .before)))
+    let empty = sym (c .before .before .before .none-set .ensures) ∙ not-false _ (c .before .before .if2 .left) in
+    c .trial-fits .ensures ∙ sym (rw empty at (left-so (c .before .before .before .before .before)))
 
 returns-5 : tie.Need-returns-5
 returns-5 c =
@@ -232,9 +230,8 @@ seat-fits-spec =
     slice-aggregate-all-empty-2
     all-empty-requires
     returns
-    slice-aggregate-all-empty-3
-    slice-aggregate-all-empty-4
-    all-empty-requires-2
+    slice-aggregate-none-set
+    none-set-requires
     returns-2
     slice-aggregate-trial-fits
     trial-fits-requires
