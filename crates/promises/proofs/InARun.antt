@@ -21,14 +21,16 @@ use Rattle.builds.proofs.Alternatives.{under}
 use Rattle.builds.proofs.Padded.{nothing-there}
 use Rattle.search.specs.Bits.{hasBit}
 use Rattle.search.specs.Clinic.{Clinic, nothing16, noneLeft}
-use Rattle.search.specs.Step.{steps, posted}
+use Rattle.search.specs.Step.{step, steps, posted}
 use Rattle.search.specs.Count.{jobSteps}
 use Rattle.search.proofs.SearchPremises.{ChoicesFit}
 use Rattle.search.proofs.PairSteps.{same-again}
 use Rattle.search.proofs.FitsInWords.{seat-fits}
 use Rattle.search.proofs.ClinicFits.{ClinicFits}
 use Rattle.search.proofs.StepsAdded.{steps-choices}
-use Rattle.search.proofs.StepWrites.{Blank, Shows, shows-on, blank-or-shows}
+use Rattle.search.proofs.StepWrites.{Blank, Shows, shows-on, blank-or-shows, alternatives-stay}
+use Rattle.search.proofs.PlaceBounds.{feature-below-16, place-at-work}
+use Rattle.search.proofs.JobResult.{in-force-alone}
 use Rattle.search.proofs.ReadyJob as ready-job
 use Rattle.runs.specs.Room.{clinicAt}
 use Rattle.runs.specs.Call.{Call}
@@ -143,6 +145,29 @@ module _ (catalogue : Catalogue) (clinic : Clinic) (fits : ClinicFits catalogue 
       ext-getD 0 (clinic .seat .alternatives) noneLeft (fits .all-alternatives)
       (λ (i : ℕ) l. none-replaced i (none i) ∙ sym (same-again 16 i 0))
 
+-- the option in force has its bit: a posting sets it, and no step clears one
+abbrev InForceCounts : Clinic → Type 0
+InForceCounts clinic = (i x : ℕ) → getD (clinic .seat .choices) i 255 ≡ x → (x ≡ 255 → ⊥)
+    → hasBit (getD (clinic .seat .alternatives) i 0) x ≡ true
+
+module _ (catalogue : Catalogue) (fault : faultOf catalogue ≡ 0) where
+  step-counts : (clinic : Clinic) → ClinicFits catalogue clinic → InForceCounts clinic → InForceCounts (step catalogue clinic)
+  unfolding steps
+  step-counts clinic fits counts i x chosen some =
+      alternatives-stay catalogue clinic
+      (λ p at-work.
+      let within = place-at-work catalogue fault (clinic .seat) (seat-fits catalogue (clinic .seat) (fits .fits)) p at-work in
+      omega (arith, fits .all-alternatives, feature-below-16 catalogue fault within))
+      i x (counts i x (ap (λ (choices : List ℕ). getD choices i 255) (sym (steps-choices catalogue 1 clinic)) ∙ chosen) some)
+
+  in-force-lasts : Invariant catalogue InForceCounts
+  unfolding posted
+  in-force-lasts = record {
+    closed = λ i x chosen some. absurd (some (sym chosen ∙ nothing-there 16 i));
+    stepped = step-counts;
+    posted = λ clinic fits before asking rows choices e i x chosen some. in-force-alone choices i x .1 (chosen, some);
+  }
+
 pub every-run : (catalogue : Catalogue) (board : List ℕ) → Opened catalogue board → (calls : List Call) (c : ℕ) → c < 8
     → InARun catalogue (moment catalogue board calls) c
 every-run catalogue board opened calls c seat-below =
@@ -161,5 +186,7 @@ every-run catalogue board opened calls c seat-below =
           let nothing = always-blank catalogue fault no-build clinic (fits .all-choices) reached
           (at-every-moment catalogue board opened BlankOrShows (blank-or-shows-lasts catalogue fault) calls c seat-below) in
           (nothing .0, nothing .1, all-none catalogue clinic fits (never-chosen catalogue fault no-build clinic reached));
+      in-force-counts =
+          at-every-moment catalogue board opened InForceCounts (in-force-lasts catalogue fault) calls c seat-below;
       none-replaced = none-replaced catalogue clinic fits;
     }

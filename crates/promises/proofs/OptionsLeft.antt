@@ -2,7 +2,7 @@
 -- under the choices in force, where the search has found what there is to find; and in a sound room the options, alternatives
 -- and example calls for a ready seat are answered out of its masks and share.
 use Prim.Native.Nat.{ℕ, zero, suc, _<_}
-use mathlib.Core.Path.{_≡_, refl, sym, ap, _∙_}
+use mathlib.Core.Path.{_≡_, refl, sym, ap, subst, _∙_}
 use mathlib.Core.Logic.{_↔_, inl}
 use mathlib.Core.Bool.{Bool, true, false, not}
 use mathlib.Core.List.{List, [], _∷_}
@@ -16,7 +16,7 @@ use Rattle.builds.specs.Fault.{faultOf}
 use Rattle.builds.specs.Rule.{optionAt}
 use Rattle.builds.specs.Build.{IsBuild, FirstWith, padded}
 use Rattle.builds.specs.Gic.{Gic}
-use Rattle.builds.specs.Alternative.{setAside, Alternative}
+use Rattle.builds.specs.Alternative.{setAside, Alternative, AlternativeDomain}
 use Rattle.search.specs.declared.State.the-variants.{Ready}
 use Rattle.search.specs.Bits.{hasBit}
 use Rattle.search.specs.Look.{isLeft}
@@ -187,6 +187,11 @@ module _
             rw alternatives-are
             (ready-job.alternatives-exactly catalogue fault choices sixteen fit i feature chosen (kept-by .0) (kept-by .1) a)
 
+        domain : AlternativeDomain catalogue choices i (isAlternative catalogue room c i)
+        domain =
+            subst (λ (answer : Answer). AlternativeDomain catalogue choices i (λ (a : ℕ). hasBit (answer .mask) a)) (sym alternatives-are)
+            (ready-job.is-alternative-domain catalogue fault choices sixteen fit (kept-by .0) (kept-by .1) i feature chosen)
+
         in-force : isAlternative catalogue room c i (getD choices i 255) ≡ true
         in-force =
             rw alternatives-are
@@ -218,6 +223,7 @@ module _
       first-beside = λ i a feature. first catalogue fault room sound c seat-below ready i feature end a;
       none-beside = λ i a feature. nothing catalogue fault room sound c seat-below ready i feature end a;
       alternatives-exactly = λ i a feature chosen. replaces catalogue fault room sound c seat-below ready i feature end chosen a;
+      alternative-domain = λ i feature chosen. domain catalogue fault room sound c seat-below ready i feature end chosen;
       in-force-among = λ i feature chosen. in-force catalogue fault room sound c seat-below ready i feature end chosen;
     }
 

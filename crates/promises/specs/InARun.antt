@@ -8,6 +8,7 @@ use lib.ListN.{length, getD}
 use Rattle.builds.specs.Catalogue.{Catalogue}
 use Rattle.builds.specs.Build.{IsBuild}
 use Rattle.search.specs.declared.State.the-variants.{Ready}
+use Rattle.search.specs.Bits.{hasBit}
 use Rattle.search.specs.Clinic.{nothing16, noneLeft, emptyShare}
 use Rattle.runs.specs.Room.{Room, shareAt}
 use Rattle.promises.specs.Moment.{seatIn}
@@ -24,5 +25,8 @@ pub record InARun (catalogue : Catalogue) (room : Room) (c : ℕ) : Type 0 where
   -- board, nor as an alternative
   pub none-left : ((build : List ℕ) → IsBuild catalogue nothing16 build → ⊥)
       → (seatIn room c .masks ≡ noneLeft) × (shareAt (room .board) c ≡ emptyShare) × (seatIn room c .alternatives ≡ noneLeft)
-  -- a feature's alternatives are empty where no choice is in force, whether the seat is ready or not
+  -- the option in force always counts as an alternative; where no choice is in force there is none, whether the seat is ready
+  -- or not
+  pub in-force-counts : (i x : ℕ) → getD (seatIn room c .choices) i 255 ≡ x → (x ≡ 255 → ⊥)
+      → hasBit (getD (seatIn room c .alternatives) i 0) x ≡ true
   pub none-replaced : (i : ℕ) → getD (seatIn room c .choices) i 255 ≡ 255 → getD (seatIn room c .alternatives) i 0 ≡ 0

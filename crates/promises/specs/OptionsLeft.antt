@@ -11,7 +11,7 @@ use lib.ListN.{length, getD, replicate}
 use Rattle.builds.specs.Catalogue.{Catalogue, sizeOf}
 use Rattle.builds.specs.Build.{FirstWith}
 use Rattle.builds.specs.Gic.{GicClosure}
-use Rattle.builds.specs.Alternative.{Alternative}
+use Rattle.builds.specs.Alternative.{Alternative, AlternativeDomain}
 use Rattle.search.specs.declared.State.the-variants.{Ready}
 use Rattle.search.specs.Bits.{hasBit}
 use Rattle.search.specs.Clinic.{exampleIn}
@@ -43,6 +43,9 @@ pub record Seen (catalogue : Catalogue) (room : Room) (c : ℕ) : Type 0 where
   -- the alternatives of a feature with a choice: some build satisfies all rules and all the other choices and contains a
   pub alternatives-exactly : (i a : ℕ) → i < length (catalogue .sizes) → (getD (seatIn room c .choices) i 255 ≡ 255 → ⊥)
       → (isAlternative catalogue room c i a ≡ true) ↔ Alternative catalogue (seatIn room c .choices) i a
+  -- this is the alternative domain of document 002, with global inverse consistency as its level of consistency
+  pub alternative-domain : (i : ℕ) → i < length (catalogue .sizes) → (getD (seatIn room c .choices) i 255 ≡ 255 → ⊥)
+      → AlternativeDomain catalogue (seatIn room c .choices) i (isAlternative catalogue room c i)
   -- the option in force is among them
   pub in-force-among : (i : ℕ) → i < length (catalogue .sizes) → (getD (seatIn room c .choices) i 255 ≡ 255 → ⊥)
       → isAlternative catalogue room c i (getD (seatIn room c .choices) i 255) ≡ true

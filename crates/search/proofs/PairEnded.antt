@@ -37,7 +37,7 @@ bit-with mask a b = go (eqb b a) refl
           λ h. rw (has-other mask a b other) (⊎-elim (λ k. k) (λ (same : b ≡ a). absurd (other same)) h),
         )
 
-bits-with : (masks : List ℕ) (i a : ℕ) → i < length masks → BitSet i a masks (withBitAt i a masks)
+pub bits-with : (masks : List ℕ) (i a : ℕ) → i < length masks → BitSet i a masks (withBitAt i a masks)
 bits-with masks i a within f b = go (eqb f i) refl
   where
     more : ℕ

@@ -2,14 +2,14 @@
 -- feature that is. A rule of an accepted catalogue has a feature, so that the greatest of them is one of them.
 use Prim.Native.Nat.{ℕ, max, _≤_}
 use mathlib.Core.Path.{_≡_, refl}
-use mathlib.Core.Logic.{_↔_}
-use mathlib.Core.Bool.{Bool, true, false, _||_, or-true}
-use mathlib.Core.List.{List, [], _∷_}
+use mathlib.Core.Logic.{_↔_, ⊎-elim}
+use mathlib.Core.Bool.{Bool, true, false}
+use mathlib.Core.List.{List, [], _∷_, List·Memᴰ, List·Memᴰ·head, List·Memᴰ·tail, List·Memᴰ·cases-cons, List·Memᴰ·not-nil}
 use native.Mathlib.Omega.{arith}
 use lib.ListN.{length}
-use lib.Dec.{ltb, eqb}
-use borrow.Author.Tests.{ltb-true, ltb-false, eqb-true, eq-eqb}
-use Rattle.builds.specs.Lists.{Every, member}
+use lib.Dec.{ltb}
+use borrow.Author.Tests.{ltb-true, ltb-false}
+use Rattle.builds.specs.Lists.{Every}
 use Rattle.builds.specs.Rule.{Rule, satisfies, highest, passes}
 use Rattle.builds.specs.Catalogue.{Catalogue, rulesOf}
 use Rattle.builds.specs.Fault.{faultOf}
@@ -28,41 +28,37 @@ unfolding highest
 highest-below Every.none = omega arith
 highest-below (Every.also h hs) = omega (arith, highest-below hs)
 
-member-below : (features : List ℕ) (j : ℕ) → member j features ≡ true → j ≤ highest features
-unfolding highest member
-member-below [] j h = let z : _≡_ {A = ℕ} 0 1 = cc in absurd (omega arith)
-member-below (f ∷ features) j h = go (eqb j f) refl h (member-below features j)
-  where
-    go : (t : Bool) → eqb j f ≡ t → (t || member j features) ≡ true → (member j features ≡ true → j ≤ highest features)
-        → j ≤ max f (highest features)
-    go true e k later = omega (arith, eqb-true j f e)
-    go false e k later = omega (arith, later k)
+member-below : (features : List ℕ) (j : ℕ) → List·Memᴰ j features → j ≤ highest features
+unfolding highest
+member-below [] j m = absurd (List·Memᴰ·not-nil m)
+member-below (f ∷ features) j m =
+    ⊎-elim (λ (e : j ≡ f). omega arith) (λ later. omega (arith, member-below features j later)) (List·Memᴰ·cases-cons m)
 
-highest-member : (f : ℕ) (features : List ℕ) → member (highest (f ∷ features)) (f ∷ features) ≡ true
-unfolding highest member
-highest-member f [] = let only : max f 0 ≡ f = omega arith in rw (eq-eqb (max f 0) f only) refl
+highest-member : (f : ℕ) (features : List ℕ) → List·Memᴰ (highest (f ∷ features)) (f ∷ features)
+unfolding highest
+highest-member f [] = let only : max f 0 ≡ f = omega arith in List·Memᴰ·head only
 highest-member f (g ∷ features) = go (ltb f (highest (g ∷ features))) refl (highest-member g features)
   where
-    go : (t : Bool) → ltb f (highest (g ∷ features)) ≡ t → member (highest (g ∷ features)) (g ∷ features) ≡ true
-        → member (max f (highest (g ∷ features))) (f ∷ g ∷ features) ≡ true
+    go : (t : Bool) → ltb f (highest (g ∷ features)) ≡ t → List·Memᴰ (highest (g ∷ features)) (g ∷ features)
+        → List·Memᴰ (max f (highest (g ∷ features))) (f ∷ g ∷ features)
     go true e later =
         let less = ltb-true f (highest (g ∷ features)) e in
         let same : max f (highest (g ∷ features)) ≡ highest (g ∷ features) = omega arith in
-        rw (same, later) (or-true (eqb (highest (g ∷ features)) f))
+        rw same (List·Memᴰ·tail later)
     go false e later =
         let more = ltb-false f (highest (g ∷ features)) e in
         let same : max f (highest (g ∷ features)) ≡ f = omega arith in
-        rw (eq-eqb (max f (highest (g ∷ features))) f same) refl
+        List·Memᴰ·head same
 
 -- j is the highest-numbered of a rule's features
 abbrev IsHighest : Rule → ℕ → Type 0
-IsHighest rule j = (member j (rule .features) ≡ true) × Every (λ (f : ℕ). f ≤ j) (rule .features)
+IsHighest rule j = List·Memᴰ j (rule .features) × Every (λ (f : ℕ). f ≤ j) (rule .features)
 
 is-highest : (rule : Rule) (j : ℕ) → 1 ≤ length (rule .features) → (highest (rule .features) ≡ j) ↔ IsHighest rule j
 is-highest rule j some = (there (rule .features) some, back)
   where
     there : (features : List ℕ) → 1 ≤ length features → highest features ≡ j
-        → (member j features ≡ true) × Every (λ (f : ℕ). f ≤ j) features
+        → List·Memᴰ j features × Every (λ (f : ℕ). f ≤ j) features
     there [] l e = absurd (omega arith)
     there (f ∷ features) l e = (rw e at (highest-member f features), all-below (f ∷ features) j (omega arith))
 
@@ -71,7 +67,7 @@ is-highest rule j some = (there (rule .features) some, back)
 
 module _ (j : ℕ) (placed : List ℕ) where
   passes-iff : {rules : List Rule} → Every (λ (rule : Rule). 1 ≤ length (rule .features)) rules
-      → (passes rules j placed ≡ true) ↔ Every (λ (rule : Rule). member j (rule .features) ≡ true → Every (λ (f : ℕ). f ≤ j) (rule .features)
+      → (passes rules j placed ≡ true) ↔ Every (λ (rule : Rule). List·Memᴰ j (rule .features) → Every (λ (f : ℕ). f ≤ j) (rule .features)
       → satisfies placed rule ≡ true) rules
   passes-iff Every.none = (λ h. Every.none, λ h. none-tested j placed)
   passes-iff (Every.also {x = rule} {xs = rules} some more) =

@@ -241,6 +241,7 @@ module _ (catalogue : Catalogue) (fault : faultOf catalogue ≡ 0) (choices : Li
 
   pub is-alternative-domain : AlternativeDomain catalogue choices i (λ (a : ℕ). hasBit (alternativesAt catalogue choices i) a)
   is-alternative-domain = record {
+    is-feature = l;
     closure = λ (f a : ℕ). hasBit (maskAt catalogue aside f) a;
     is-closure = shown-is-gic catalogue fault aside (rw length-set sixteen) fit-aside;
     is-domain = λ a. rw alternatives-left refl;

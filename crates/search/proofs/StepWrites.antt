@@ -1,5 +1,6 @@
 -- What a step does to masks and share: it leaves both as they are, also where it finds an alternative, or writes an example
--- and sets a bit in the mask of the pair's feature. So a clinic that shows an option goes on to show one, and a blank one stays blank until it shows one.
+-- and sets a bit in the mask of the pair's feature. So a clinic that shows an option goes on to show one, and a blank one stays blank until it shows one. Of the alternatives
+-- a step clears no bit.
 use Prim.Native.Nat.{ℕ, zero, suc, _+_, _^_, _<_}
 use mathlib.Core.Path.{_≡_, refl}
 use mathlib.Core.Bool.{Bool, true, false, cond}
@@ -24,6 +25,7 @@ use Rattle.search.proofs.Bits.{no-bit-above}
 use Rattle.search.proofs.FitsInWords.{seat-fits}
 use Rattle.search.proofs.PlaceBounds.{feature-below-16, place-at-work}
 use Rattle.search.proofs.ClinicFits.{ClinicFits}
+use Rattle.search.proofs.PairEnded.{bits-with}
 
 -- the masks with the bit of a pair set
 abbrev pub bitSet : Place → List ℕ → List ℕ
@@ -134,3 +136,31 @@ module _ (catalogue : Catalogue) where
         go (nothing masks-are share-is) = inl (rw masks-are (blank .0), rw share-is (blank .1))
         go (an-example p at-work masks-are) =
             inr (written-shows clinic (step catalogue clinic) p (has-mask-at-work p at-work) masks-are)
+
+-- ---- alternatives
+
+module _ (catalogue : Catalogue) (clinic : Clinic) (has-place : (p : Place) → clinic .seat .state ≡ AtWork p
+    → p .feature < length (clinic .seat .alternatives)) (f b : ℕ) where
+  abbrev Shown : Clinic → Type 0
+  Shown after = hasBit (getD (after .seat .alternatives) f 0) b ≡ true
+
+  tried-keeps : (p : Place) → clinic .seat .state ≡ AtWork p → Shown clinic → (trying : Tried)
+      → Shown (afterTried (catalogue .sizes) (p .feature) (p .option) clinic trying)
+  unfolding afterTried pairEnded withExample withAlternative
+  tried-keeps p at-work shown (goOn depth next trial) = shown
+  tried-keeps p at-work shown (build trial) =
+      by-case (clinic .seat .choices) (p .feature) (p .option) trial clinic
+      (λ (found : Clinic). Shown (pairEnded (catalogue .sizes) (p .feature) (p .option) found))
+      (λ e. bits-with (clinic .seat .alternatives) (p .feature) (p .option) (has-place p at-work) f b .1 (inl shown)) (λ e. shown)
+  tried-keeps p at-work shown exhausted = shown
+
+  pub alternatives-stay : Shown clinic → Shown (step catalogue clinic)
+  unfolding step stepFrom stepAt
+  alternatives-stay shown = go (clinic .seat .state) refl
+    where
+      go : (state : State) → clinic .seat .state ≡ state → Shown (stepFrom catalogue state clinic)
+      go Closed e = shown
+      go Ready e = shown
+      go (AtWork p) e =
+          tried-keeps p e shown
+          (tried catalogue (clinic .seat .choices) (p .feature) (p .option) (p .depth) (p .next) (clinic .seat .trial))

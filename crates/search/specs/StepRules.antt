@@ -6,9 +6,9 @@ use Prim.Native.Nat.{ℕ, _+_, _-_, _*_, _≤_, _<_}
 use mathlib.Core.Path.{_≡_}
 use mathlib.Core.Logic.{_↔_, _⊎_}
 use mathlib.Core.Bool.{true}
-use mathlib.Core.List.{List, _++_}
+use mathlib.Core.List.{List, _++_, List·Memᴰ}
 use lib.ListN.{length, getD, take, set, replicate}
-use Rattle.builds.specs.Lists.{Every, member, put}
+use Rattle.builds.specs.Lists.{Every, put}
 use Rattle.builds.specs.Rule.{Rule, satisfies}
 use Rattle.builds.specs.Catalogue.{Catalogue, rulesOf}
 use Rattle.search.specs.declared.State.{State}
@@ -32,7 +32,7 @@ Greater sizes choices i a placed d w = (getD placed d 255 < w) × Candidate size
 
 -- what is placed breaks no rule whose highest-numbered feature is j: j is one of its features, and none of them is above j
 abbrev pub Passed : Catalogue → ℕ → List ℕ → Type 0
-Passed catalogue j placed = Every (λ (rule : Rule). member j (rule .features) ≡ true → Every (λ (f : ℕ). f ≤ j) (rule .features)
+Passed catalogue j placed = Every (λ (rule : Rule). List·Memᴰ j (rule .features) → Every (λ (f : ℕ). f ≤ j) (rule .features)
     → satisfies placed rule ≡ true) (rulesOf catalogue)
 
 -- the pair after (i, a), i rising, then a rising within i, at depth 0 with the first candidate there; after the last,

@@ -2,7 +2,7 @@
 use Prim.Native.Nat.{ℕ, zero, suc, _≤_, _<_}
 use mathlib.Core.Path.{_≡_, refl}
 use mathlib.Core.Bool.{false≢true}
-use mathlib.Core.List.{List, _∷_}
+use mathlib.Core.List.{List, _∷_, List·Memᴰ·head, List·Memᴰ·tail}
 use native.Mathlib.Omega.{arith}
 use lib.ListN.{replicate}
 use lib.Dec.{lit<, lit≤}
@@ -36,7 +36,7 @@ passes-broken = refl
 
 fails-00 : Passed trolley 1 placed-00 → ⊥
 unfolding computing
-fails-00 passed = false≢true (first-of passed refl (also (lit≤ tt) (also (lit≤ tt) none)))
+fails-00 passed = false≢true (first-of passed (List·Memᴰ·tail (List·Memᴰ·head refl)) (also (lit≤ tt) (also (lit≤ tt) none)))
 
 next-greater : EveryTurns → (step trolley (before broken) .seat .state ≡ AtWork (at-place 0 0 1 1))
     × (step trolley (before broken) .share ≡ before broken .share)
@@ -64,7 +64,7 @@ passes-dead-end = refl
 
 fails-010 : Passed trolley 2 placed-010 → ⊥
 unfolding computing
-fails-010 passed = false≢true (first-of (rest-of passed) refl (also (lit≤ tt) (also (lit≤ tt) none)))
+fails-010 passed = false≢true (first-of (rest-of passed) (List·Memᴰ·tail (List·Memᴰ·head refl)) (also (lit≤ tt) (also (lit≤ tt) none)))
 
 none-at-2 : (sizes : List ℕ) (e u : ℕ) → 1 < e → e ≤ 2 → Greater sizes nothing16 2 0 placed-010 e u → ⊥
 none-at-2 sizes zero u l l₂ g = omega (arith, l)
@@ -97,7 +97,7 @@ passes-exhausted = refl
 
 fails-02 : Passed trolley 1 placed-02 → ⊥
 unfolding computing
-fails-02 passed = false≢true (first-of passed refl (also (lit≤ tt) (also (lit≤ tt) none)))
+fails-02 passed = false≢true (first-of passed (List·Memᴰ·tail (List·Memᴰ·head refl)) (also (lit≤ tt) (also (lit≤ tt) none)))
 
 none-left : (e u : ℕ) → e ≤ 1 → Greater (trolley .sizes) lastChosen 0 0 placed-02 e u → ⊥
 unfolding trolley

@@ -1,5 +1,6 @@
--- What could replace a choice: on the trolley, option 0 of feature 2 is in force, and 011 has option 1. Relaxed and ready again,
--- the feature has both left.
+-- What could replace a choice. On the trolley, option 0 of feature 2 is in force, and 011 has option 1; relaxed and ready
+-- again, the feature has both left. Then option 0 of feature 1 is chosen too: option 2 could replace it, for 120 keeps the other
+-- choice, and option 1 could not, which 011 and 211 alone have; and option 1 of feature 2 no longer could, for 100 alone is left.
 use Prim.Native.Nat.{ℕ}
 use mathlib.Core.Path.{_≡_, refl, sym, _∙_}
 use mathlib.Core.Bool.{true}
@@ -12,8 +13,9 @@ use Rattle.builds.specs.Alternative.{setAside, Alternative}
 use Rattle.builds.specs.ListedBuilds.{buildsWith}
 use Rattle.builds.proofs.ListedBuilds.{builds-with-are}
 use Rattle.search.specs.declared.State.the-variants.{Ready}
+use Rattle.search.specs.Bits.{hasBit}
 use Rattle.search.specs.Trolley.{trolley, lastChosen}
-use Rattle.runs.specs.declared.Asking.the-variants.{Choose, Relax, Read}
+use Rattle.runs.specs.declared.Asking.the-variants.{Enter, Choose, Relax, Read}
 use Rattle.runs.specs.declared.Reading.the-variants.{Options, Alternatives, Example}
 use Rattle.runs.specs.Call.{Call, asks, turns}
 use Rattle.runs.specs.Perform.{perform}
@@ -56,9 +58,91 @@ among : OptionsLeft → isAlternative trolley (moment trolley board chosen) 0 2 
 among demand =
     rw in-force at (demand trolley board chosen 0 (lit< tt) is-ready-again .in-force-among 2 (feature 2 (lit< tt)) has-choice)
 
--- without a choice there is none
+-- ---- two choices: a job of 37 steps
+
+unfoldable pub twice : List Call
+twice = chosen ++ asks 0 (Choose 1 0) ∷ turns 37 ∷ []
+
+abbrev both : List ℕ
+both = set lastChosen 1 0
+
+ready-twice : seatIn (moment trolley board twice) 0 .state ≡ Ready
+unfolding board ready chosen twice computing moment
+ready-twice = refl
+
+both-in-force : seatIn (moment trolley board twice) 0 .choices ≡ both
+unfolding board ready chosen twice computing moment
+both-in-force = refl
+
+has-120 : BuildWith trolley (setAside both 1) 1 2 (1 ∷ 2 ∷ 0 ∷ [])
+unfolding computing buildsWith
+has-120 = builds-with-are trolley (setAside both 1) 1 2 (1 ∷ 2 ∷ 0 ∷ []) .0 (List·Memᴰ·head refl)
+
+none-with-1 : (build : List ℕ) → BuildWith trolley (setAside both 1) 1 1 build → ⊥
+unfolding computing buildsWith
+none-with-1 build b = List·Memᴰ·not-nil (builds-with-are trolley (setAside both 1) 1 1 build .1 b)
+
+none-with-2-1 : (build : List ℕ) → BuildWith trolley (setAside both 2) 2 1 build → ⊥
+unfolding computing buildsWith
+none-with-2-1 build b = List·Memᴰ·not-nil (builds-with-are trolley (setAside both 2) 2 1 build .1 b)
+
+chosen-1 : getD (seatIn (moment trolley board twice) 0 .choices) 1 255 ≡ 255 → ⊥
+chosen-1 e = let none : _≡_ {A = ℕ} 0 255 = rw both-in-force at e in omega (arith, none)
+
+chosen-2 : getD (seatIn (moment trolley board twice) 0 .choices) 2 255 ≡ 255 → ⊥
+chosen-2 e = let none : _≡_ {A = ℕ} 0 255 = rw both-in-force at e in omega (arith, none)
+
+module _ (demand : OptionsLeft) where
+  2-could : isAlternative trolley (moment trolley board twice) 0 1 2 ≡ true
+  2-could =
+      demand trolley board twice 0 (lit< tt) ready-twice .alternatives-exactly 1 2 (feature 1 (lit< tt)) chosen-1 .1
+      (1 ∷ 2 ∷ 0 ∷ [], rw both-in-force has-120)
+
+  1-could-not : isAlternative trolley (moment trolley board twice) 0 1 1 ≡ true → ⊥
+  1-could-not so =
+      let seen = demand trolley board twice 0 (lit< tt) ready-twice in
+      let some = rw both-in-force at (seen .alternatives-exactly 1 1 (feature 1 (lit< tt)) chosen-1 .0 so) in
+      none-with-1 (some .0) (some .1)
+
+  no-longer : isAlternative trolley (moment trolley board twice) 0 2 1 ≡ true → ⊥
+  no-longer so =
+      let seen = demand trolley board twice 0 (lit< tt) ready-twice in
+      let some = rw both-in-force at (seen .alternatives-exactly 2 1 (feature 2 (lit< tt)) chosen-2 .0 so) in
+      none-with-2-1 (some .0) (some .1)
+
+  -- the domain of document 002 is the closure without the choice: what it has, some build under the other choice has
+  in-domain : (build : List ℕ) × BuildWith trolley (setAside (seatIn (moment trolley board twice) 0 .choices) 1) 1 2 build
+  in-domain =
+      let domain = demand trolley board twice 0 (lit< tt) ready-twice .alternative-domain 1 (feature 1 (lit< tt)) chosen-1 in
+      domain .is-closure .exactly 1 2 (domain .is-feature) .0 (sym (domain .is-domain 2) ∙ 2-could)
+
+-- relaxed while seat 5 enters and works: the other choice stays, and 0 and 2 are left
+unfoldable pub meanwhile : List Call
+meanwhile = asks 5 Enter ∷ turns 90 ∷ []
+
+ready-meanwhile : seatIn (moment trolley board (twice ++ asks 0 (Relax 1) ∷ meanwhile)) 0 .state ≡ Ready
+unfolding board ready chosen twice meanwhile computing moment
+ready-meanwhile = refl
+
+quiet-meanwhile : Quiet trolley 0 (perform trolley (asks 0 (Relax 1)) (moment trolley board twice) .room) meanwhile
+unfolding meanwhile
+quiet-meanwhile = Quiet.not-its-own (asks 5 Enter) refl (Quiet.not-its-own (turns 90) refl Quiet.no-call)
+
+as-shown : EveryReplacing → perform trolley (asks 0 (Read (Options 1))) (moment trolley board (twice ++ asks 0 (Relax 1) ∷ meanwhile)) .answer
+    ≡ perform trolley (asks 0 (Read (Alternatives 1))) (moment trolley board twice) .answer
+as-shown demand =
+    demand trolley board twice 0 (lit< tt) ready-twice 1 (feature 1 (lit< tt)) chosen-1 .after-relaxing meanwhile
+    quiet-meanwhile ready-meanwhile
+
+-- ---- without a choice there is none; the option in force counts before the seat is ready
 unchosen : EveryMoment → getD (seatIn (moment trolley board chosen) 0 .alternatives) 1 0 ≡ 0
 unchosen demand = demand trolley board chosen .opened opens 0 (lit< tt) .in-a-run .none-replaced 1 (rw in-force refl)
+
+counts-at-work : EveryMoment → hasBit (getD (seatIn (moment trolley board (ready ++ asks 0 (Choose 2 0) ∷ turns 1 ∷ [])) 0 .alternatives) 2 0) 0 ≡ true
+unfolding board ready computing moment
+counts-at-work demand =
+    demand trolley board (ready ++ asks 0 (Choose 2 0) ∷ turns 1 ∷ []) .opened opens 0 (lit< tt) .in-a-run .in-force-counts 2 0 refl
+    (λ e. omega (arith, e))
 
 -- in the request's words: some build satisfies all rules and the other choices, of which there are none, and has option 1
 said : Words → Alternative trolley lastChosen 2 1 → (build : List ℕ) × (getD build 2 255 ≡ 1)
@@ -93,6 +177,25 @@ option-2-could-not = hidden proved-options-left
 
 pub option-0-among : isAlternative trolley (moment trolley board chosen) 0 2 0 ≡ true
 option-0-among = among proved-options-left
+
+pub option-2-of-1-could : isAlternative trolley (moment trolley board twice) 0 1 2 ≡ true
+option-2-of-1-could = 2-could proved-options-left
+
+pub option-1-of-1-could-not : isAlternative trolley (moment trolley board twice) 0 1 1 ≡ true → ⊥
+option-1-of-1-could-not = 1-could-not proved-options-left
+
+pub option-1-of-2-no-longer : isAlternative trolley (moment trolley board twice) 0 2 1 ≡ true → ⊥
+option-1-of-2-no-longer = no-longer proved-options-left
+
+pub in-alternative-domain : (build : List ℕ) × BuildWith trolley (setAside (seatIn (moment trolley board twice) 0 .choices) 1) 1 2 build
+in-alternative-domain = in-domain proved-options-left
+
+pub left-while-others-work : perform trolley (asks 0 (Read (Options 1))) (moment trolley board (twice ++ asks 0 (Relax 1) ∷ meanwhile)) .answer
+    ≡ perform trolley (asks 0 (Read (Alternatives 1))) (moment trolley board twice) .answer
+left-while-others-work = as-shown proved-every-replacing
+
+pub in-force-at-work : hasBit (getD (seatIn (moment trolley board (ready ++ asks 0 (Choose 2 0) ∷ turns 1 ∷ [])) 0 .alternatives) 2 0) 0 ≡ true
+in-force-at-work = counts-at-work proved-every-moment
 
 pub none-without-choice : getD (seatIn (moment trolley board chosen) 0 .alternatives) 1 0 ≡ 0
 none-without-choice = unchosen proved-every-moment

@@ -4,7 +4,7 @@ use Prim.Native.Nat.{ℕ, _≤_}
 use mathlib.Core.Path.{_≡_, refl, ap, _∙_}
 use mathlib.Core.Logic.{inl, inr, ⊎-elim}
 use mathlib.Core.Bool.{true, false≢true}
-use mathlib.Core.List.{List, [], _∷_}
+use mathlib.Core.List.{List, [], _∷_, List·Memᴰ, List·Memᴰ·cases-cons, List·Memᴰ·not-nil}
 use native.Mathlib.Omega.{arith}
 use lib.ListN.{getD, set, replicate}
 use lib.Dec.{lit<}
@@ -32,10 +32,23 @@ first-of (also p ps) = p
 pub rest-of : {A : Type 0} {P : A → Type 0} {x : A} {xs : List A} → Every P (x ∷ xs) → Every P xs
 rest-of (also p ps) = ps
 
+-- feature 2 is none of rule A's
+not-of-A : List·Memᴰ {A = ℕ} 2 (0 ∷ 1 ∷ []) → ⊥
+not-of-A m =
+    ⊎-elim (λ (e : 2 ≡ 0). omega (arith, e))
+    (λ later. ⊎-elim (λ (e : 2 ≡ 1). omega (arith, e)) (λ none. List·Memᴰ·not-nil none) (List·Memᴰ·cases-cons later))
+    (List·Memᴰ·cases-cons m)
+
 -- ---- rule 3, chosen otherwise: option 0 of feature 2 is chosen, and for the pair (2, 1) the build 011 is complete
 
 abbrev other-chosen : Seat
-other-chosen = searching (at-place 2 1 2 1) lastChosen (0 ∷ 1 ∷ replicate 14 255)
+other-chosen = record {
+  state = AtWork (at-place 2 1 2 1);
+  choices = lastChosen;
+  masks = replicate 16 0;
+  trial = 0 ∷ 1 ∷ replicate 14 255;
+  alternatives = 0 ∷ 0 ∷ 1 ∷ replicate 13 0;
+}
 
 abbrev build-011 : List ℕ
 build-011 = 0 ∷ 1 ∷ 1 ∷ replicate 13 255
@@ -46,7 +59,7 @@ passes-otherwise = refl
 
 passed-011 : Passed trolley 2 build-011
 unfolding computing
-passed-011 = also (λ m e. absurd (false≢true m)) (also (λ m e. refl) none)
+passed-011 = also (λ m e. absurd (not-of-A m)) (also (λ m e. refl) none)
 
 -- bit 1 is set among the alternatives of feature 2, no option is shown as left, nothing is written, and the seat is ready
 found-otherwise : EveryTurns → (step trolley (before other-chosen) .seat .state ≡ Ready)
@@ -64,6 +77,18 @@ found-otherwise demand =
       shown .masks-stay,
       shown .share-stays,
       found .0 .nothing-placed,
+    )
+
+-- the bit of the option in force stays, and no other is set
+no-other-alternative : EveryTurns → (hasBit (getD (step trolley (before other-chosen) .seat .alternatives) 2 0) 0 ≡ true)
+    × (hasBit (getD (step trolley (before other-chosen) .seat .alternatives) 1 0) 1 ≡ true → ⊥)
+unfolding room-of trolley
+no-other-alternative demand =
+    let rules = by-rules demand trolley other-chosen (refl, refl, refl, refl) passes-otherwise (at-place 2 1 2 1) refl in
+    let found = rules .tries .build-found passed-011 refl in
+    let shown = found .1 .chosen-otherwise (λ (e : 0 ≡ 255). omega (arith, e)) (λ (e : 0 ≡ 1). omega (arith, e)) in (
+      shown .bit-set 2 0 .1 (inl refl),
+      λ set. ⊎-elim (λ set-before. false≢true set-before) (λ (same : (1 ≡ 2) × (1 ≡ 1)). omega (arith, same .0)) (shown .bit-set 1 1 .0 set),
     )
 
 -- the turn gives seat 0 this step
@@ -97,7 +122,7 @@ passes-3 = refl
 
 passed-211 : Passed trolley 2 build-211
 unfolding computing
-passed-211 = also (λ m e. absurd (false≢true m)) (also (λ m e. refl) none)
+passed-211 = also (λ m e. absurd (not-of-A m)) (also (λ m e. refl) none)
 
 rule-3 : EveryTurns → (step trolley (before complete) .seat .state ≡ AtWork (at-place 1 0 0 0))
     × (hasBit (getD (step trolley (before complete) .seat .masks) 0 0) 2 ≡ true)
@@ -176,6 +201,10 @@ pub alternative-found : (step trolley (before other-chosen) .seat .state ≡ Rea
     × (step trolley (before other-chosen) .share ≡ before other-chosen .share)
     × (step trolley (before other-chosen) .seat .trial ≡ nothing16)
 alternative-found = found-otherwise proved-every-turns
+
+pub one-alternative-alone : (hasBit (getD (step trolley (before other-chosen) .seat .alternatives) 2 0) 0 ≡ true)
+    × (hasBit (getD (step trolley (before other-chosen) .seat .alternatives) 1 0) 1 ≡ true → ⊥)
+one-alternative-alone = no-other-alternative proved-every-turns
 
 pub turn-to-ready : seatIn (perform trolley (turns 1) (room-of other-chosen closedSeat 0) .room) 0 .state ≡ Ready
 turn-to-ready = by-a-turn proved-every-turns

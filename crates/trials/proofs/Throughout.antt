@@ -91,10 +91,11 @@ module _ (demand : EveryMoment) where
 
   lengths : (length (moment trolley board chosen .desk .seats) ≡ 8)
       × (length (seatIn (moment trolley board chosen) 7 .masks) ≡ 16)
+      × (length (seatIn (moment trolley board chosen) 7 .alternatives) ≡ 16)
       × (length (moment trolley board chosen .board) ≡ 32768)
   lengths =
       let whole = demand trolley board chosen .opened opens 0 (lit< tt) .whole in
-      (whole .eight, whole .sixteen 7 (lit< tt) .1, whole .board-length)
+      (whole .eight, whole .sixteen 7 (lit< tt) .1, whole .sixteen 7 (lit< tt) .3, whole .board-length)
 
 -- ---- openings that are refused: a board of no bytes, a catalogue with a feature of no options
 
@@ -149,6 +150,7 @@ never-given-20 = no-20 proved-every-moment
 
 pub whole-throughout : (length (moment trolley board chosen .desk .seats) ≡ 8)
     × (length (seatIn (moment trolley board chosen) 7 .masks) ≡ 16)
+    × (length (seatIn (moment trolley board chosen) 7 .alternatives) ≡ 16)
     × (length (moment trolley board chosen .board) ≡ 32768)
 whole-throughout = lengths proved-every-moment
 
