@@ -21,8 +21,8 @@ pub record InARun (catalogue : Catalogue) (room : Room) (c : ℕ) : Type 0 where
   -- if the catalogue has a build, every ready seat shows at least one option for each feature
   pub some-left : (build : List ℕ) → IsBuild catalogue nothing16 build → seatIn room c .state ≡ Ready
       → (i : ℕ) → i < length (catalogue .sizes) → (a : ℕ) × (isShown catalogue room c i a ≡ true)
-  -- if it has none, no option anywhere, whether the seat is ready or not: neither in the masks, nor on the
-  -- board, nor as an alternative
+  -- if it has none, no option anywhere, whether the seat is ready or not: neither in the masks, nor on the board, nor as an
+  -- alternative
   pub none-left : ((build : List ℕ) → IsBuild catalogue nothing16 build → ⊥)
       → (seatIn room c .masks ≡ noneLeft) × (shareAt (room .board) c ≡ emptyShare) × (seatIn room c .alternatives ≡ noneLeft)
   -- the option in force always counts as an alternative; where no choice is in force there is none, whether the seat is ready

@@ -1,5 +1,5 @@
--- K as a sum over the pairs of a job, one for each option tried: what P6 and P8 count. That the steps of `Step` bring a posted job to readiness in just so many is a theorem. The promises say K both ways,
--- by `ReadyAfter` of `Step` and as this sum.
+-- K as a sum over the pairs of a job, one for each option tried: what P6 and P8 count. That the steps of `Step` bring a posted
+-- job to readiness in just so many is a theorem. The promises say K both ways, by `ReadyAfter` of `Step` and as this sum.
 use Prim.Native.Nat.{ℕ, zero, suc, _+_}
 use mathlib.Core.Bool.{Bool, cond}
 use mathlib.Core.Option.{Option, none, some}

@@ -1,5 +1,4 @@
--- What others look up in a seat's record: its state's kind, and a feature's choice, options left and
--- alternatives.
+-- What others look up in a seat's record: its state's kind, and a feature's choice, options left and alternatives.
 use Prim.Native.Nat.{ℕ}
 use mathlib.Core.Bool.{Bool, true, false, not}
 use lib.ListN.{getD}

@@ -57,7 +57,8 @@ pub record NothingWritten (before after : Clinic) : Type 0 where
 
 -- bit a is set in mask i, and no other bit of any mask changes
 abbrev pub BitSet : ℕ → ℕ → List ℕ → List ℕ → Type 0
-BitSet i a before after = (f b : ℕ) → (hasBit (getD after f 0) b ≡ true) ↔ ((hasBit (getD before f 0) b ≡ true) ⊎ ((f ≡ i) × (b ≡ a)))
+BitSet i a before after =
+    (f b : ℕ) → (hasBit (getD after f 0) b ≡ true) ↔ ((hasBit (getD before f 0) b ≡ true) ⊎ ((f ≡ i) × (b ≡ a)))
 
 pub record ExampleWritten (i a : ℕ) (build : List ℕ) (before after : Clinic) : Type 0 where
   pub bit-set : BitSet i a (before .seat .masks) (after .seat .masks)
