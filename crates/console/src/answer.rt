@@ -3,6 +3,7 @@ use lines::Numbers;
 use lines::Stretch;
 use lines::at;
 use lines::between;
+use lines::commands::EXIT;
 use lines::commands::Form;
 use lines::commands::MORE;
 use lines::commands::NONE;
@@ -15,6 +16,7 @@ use lines::end_of;
 use lines::first;
 use lines::least;
 use lines::read_numbers;
+use lines::same;
 use lines::text;
 use room::Room;
 use room::obey;
@@ -86,16 +88,31 @@ fn answered(sitting: Sitting, room: Room, command: usize) -> Sitting {
         room,
         answered: std::num::wrapping_add_u64(sitting.answered, 1),
         not_understood: sitting.not_understood,
-        ended: command == QUIT,
+        ended: ends(command),
     }
 }
 
+fn ends(command: usize) -> bool {
+    match command {
+        QUIT | EXIT => true,
+        _ => false,
+    }
+}
+
+// A byte-order mark is passed over.
 fn read(room: Room, line: &[u8], numbers: &mut [u32]) -> Line {
+    if same(between(line, 0, 3), b"\xef\xbb\xbf") {
+        return read_words(room, between(line, 3, line.len()), numbers);
+    }
+    read_words(room, line, numbers)
+}
+
+fn read_words(room: Room, line: &[u8], numbers: &mut [u32]) -> Line {
     let from = end_of(line, 0, Stretch::Blanks);
     if from == line.len() {
         return Line::Nothing;
     }
-    if line[0] == b'#' {
+    if line[from] == b'#' {
         text(line);
         text(b"\n");
         return Line::Nothing;

@@ -4,12 +4,16 @@ use crate::answer::answer;
 use crate::answer::not_understood;
 use lines::LONGEST;
 use lines::Stretch;
+use lines::TYPED;
 use lines::append;
 use lines::around;
 use lines::between;
 use lines::end_of;
+use lines::is_person;
 use lines::read_some;
+use lines::report_end;
 use lines::text;
+use shown::help;
 
 struct Reading {
     sitting: Sitting,
@@ -23,7 +27,11 @@ pub fn script(fd: i32) {
     let mut sizes = [0u8; 64];
     let mut rules = [0u16; 9000];
     let mut numbers = [0u32; 9000];
-    let room = room::trolley(&mut board, &mut sizes, &mut rules);
+    let watched = is_person(fd);
+    if watched {
+        help::start();
+    }
+    let room = room::trolley(&mut board, &mut sizes, &mut rules, watched);
     let start = Sitting {
         room,
         answered: 0,
@@ -31,8 +39,14 @@ pub fn script(fd: i32) {
         ended: false,
     };
     let sitting = lines(fd, start, &mut board, &mut sizes, &mut rules, &mut numbers);
+    if watched {
+        if !sitting.ended {
+            text(b"\n");
+        }
+    }
     around(b"end: ", sitting.answered, b" answered, ");
     around(b"", sitting.not_understood, b" not understood\n");
+    report_end(sitting.not_understood);
 }
 
 // The last line may lack its line feed; after quit, and where it doesn't, none of it is left.
@@ -106,6 +120,7 @@ fn read_on(
     line: &mut [u8],
     chunk: &mut [u8],
 ) -> Reading {
+    prompt(reading);
     let count = read_some(fd, chunk);
     let mut before = reading;
     before.at = 0;
@@ -119,6 +134,17 @@ fn read_on(
         line,
         between(chunk, 0, count),
     )
+}
+
+// A person is asked for each line.
+fn prompt(reading: Reading) {
+    let sitting = reading.sitting;
+    let room = sitting.room;
+    if reading.length == 0 {
+        if room.watched {
+            text(b"> ");
+        }
+    }
 }
 
 // Answers each line that these bytes end.
@@ -188,6 +214,15 @@ fn whole(
     if LONGEST < length {
         text(b"not understood; a line has at most 65536 bytes\n");
         return not_understood(sitting);
+    }
+    let room = sitting.room;
+    if room.watched {
+        if TYPED <= length {
+            text(
+                b"not understood; a terminal cuts a line after 4095 bytes: use more, or a script\n",
+            );
+            return not_understood(sitting);
+        }
     }
     answer(
         sitting,

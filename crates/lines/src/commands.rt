@@ -8,7 +8,7 @@ use crate::writing::text;
 
 // A command's number is its line here, and its word the line's first. The calls stand first, then what sets catalogue
 // and board, then the desk's fields, then looking.
-pub const FORMS: [u8; 515] = *b"open
+pub const FORMS: [u8; 548] = *b"open
 enter SEAT
 leave SEAT
 choose SEAT FEATURE OPTION
@@ -17,6 +17,7 @@ options SEAT FEATURE
 alternatives SEAT FEATURE
 example SEAT FEATURE OPTION
 turns TURNS
+work SEAT
 trolley
 sizes SIZE ...
 rules NUMBER ...
@@ -35,9 +36,12 @@ seat SEAT
 desk
 share SEAT
 list SEAT
+catalogue
+numbers
 digest
 help
 quit
+exit
 ";
 
 pub const OPEN: usize = 0;
@@ -58,49 +62,57 @@ pub const EXAMPLE: usize = 7;
 
 pub const TURNS: usize = 8;
 
-pub const TROLLEY: usize = 9;
+pub const WORK: usize = 9;
 
-pub const SIZES: usize = 10;
+pub const TROLLEY: usize = 10;
 
-pub const RULES: usize = 11;
+pub const SIZES: usize = 11;
 
-pub const MORE: usize = 12;
+pub const RULES: usize = 12;
 
-pub const BOARD: usize = 13;
+pub const MORE: usize = 13;
 
-pub const SET_BYTE: usize = 14;
+pub const BOARD: usize = 14;
 
-pub const SET_NEXT: usize = 15;
+pub const SET_BYTE: usize = 15;
 
-pub const SET_CLOSED: usize = 16;
+pub const SET_NEXT: usize = 16;
 
-pub const SET_READY: usize = 17;
+pub const SET_CLOSED: usize = 17;
 
-pub const SET_WORK: usize = 18;
+pub const SET_READY: usize = 18;
 
-pub const SET_CHOICE: usize = 19;
+pub const SET_WORK: usize = 19;
 
-pub const SET_MASK: usize = 20;
+pub const SET_CHOICE: usize = 20;
 
-pub const SET_ALTERNATIVES: usize = 21;
+pub const SET_MASK: usize = 21;
 
-pub const SET_TRIAL: usize = 22;
+pub const SET_ALTERNATIVES: usize = 22;
 
-pub const SEAT: usize = 23;
+pub const SET_TRIAL: usize = 23;
 
-pub const DESK: usize = 24;
+pub const SEAT: usize = 24;
 
-pub const SHARE: usize = 25;
+pub const DESK: usize = 25;
 
-pub const LIST: usize = 26;
+pub const SHARE: usize = 26;
 
-pub const DIGEST: usize = 27;
+pub const LIST: usize = 27;
 
-pub const HELP: usize = 28;
+pub const CATALOGUE: usize = 28;
 
-pub const QUIT: usize = 29;
+pub const NUMBERS: usize = 29;
 
-pub const NONE: usize = 30;
+pub const DIGEST: usize = 30;
+
+pub const HELP: usize = 31;
+
+pub const QUIT: usize = 32;
+
+pub const EXIT: usize = 33;
+
+pub const NONE: usize = 34;
 
 // A command, and where its form stands.
 pub struct Form {

@@ -2,12 +2,35 @@
 use crate::reading::between;
 use libc::STDOUT_FILENO;
 
+// The descriptor where the program that runs the console is told how it goes, if that program opened it.
+const REPORT: i32 = 9;
+
 pub fn text(words: &[u8]) {
-    io::write_all(STDOUT_FILENO, words);
+    if !io::write_all(STDOUT_FILENO, words) {
+        report(b"lost\n");
+    }
 }
 
 pub fn number(n: u64) {
-    io::print_decimal(STDOUT_FILENO, n);
+    if !io::print_decimal(STDOUT_FILENO, n) {
+        report(b"lost\n");
+    }
+}
+
+pub fn hexadecimal(n: u64) {
+    if !io::print_hex(STDOUT_FILENO, n, 16) {
+        report(b"lost\n");
+    }
+}
+
+pub fn report(words: &[u8]) {
+    io::write_all(REPORT, words);
+}
+
+pub fn report_end(not_understood: u64) {
+    report(b"end ");
+    io::print_decimal(REPORT, not_understood);
+    report(b"\n");
 }
 
 // Words around a number.
@@ -15,6 +38,15 @@ pub fn around(before: &[u8], n: u64, after: &[u8]) {
     text(before);
     number(n);
     text(after);
+}
+
+// So many of something: `1 rule`, `2 rules`.
+pub fn counted(n: u64, what: &[u8]) {
+    around(b"", n, b" ");
+    text(what);
+    if n != 1 {
+        text(b"s");
+    }
 }
 
 // Bytes with a blank before each; `-` stands for 255.

@@ -6,17 +6,20 @@ use crate::fields;
 use crate::list;
 use crate::setup;
 use crate::showing;
+use crate::work;
 use lines::at;
 use lines::between;
+use lines::commands::CATALOGUE;
 use lines::commands::DESK;
 use lines::commands::DIGEST;
 use lines::commands::HELP;
 use lines::commands::LIST;
+use lines::commands::NUMBERS;
 use lines::commands::SEAT;
 use lines::commands::SET_BYTE;
 use lines::commands::SET_TRIAL;
 use lines::commands::SHARE;
-use lines::commands::TURNS;
+use lines::commands::WORK;
 use lines::least;
 use lines::text;
 use shown::Asked;
@@ -30,7 +33,7 @@ pub fn obey(
     command: usize,
     numbers: &[u32],
 ) -> Room {
-    if command <= TURNS {
+    if command <= WORK {
         return call(room, board, sizes, rules, command, numbers);
     }
     if command <= SET_BYTE {
@@ -61,8 +64,8 @@ fn call(
         feature: at(numbers, 1),
         option: at(numbers, 2),
     };
-    let desk = calls::call(
-        room.desk,
+    let desk = make(
+        room,
         &mut board[0..b],
         &sizes[0..s],
         &rules[0..r],
@@ -72,13 +75,22 @@ fn call(
     with_desk(room, desk)
 }
 
-fn with_desk(room: Room, desk: desk::Desk) -> Room {
-    Room {
-        desk,
-        board_length: room.board_length,
-        sizes_count: room.sizes_count,
-        rules_count: room.rules_count,
+fn make(
+    room: Room,
+    board: &mut [u8],
+    sizes: &[u8],
+    rules: &[u16],
+    command: usize,
+    asked: Asked,
+) -> desk::Desk {
+    if command == WORK {
+        return work::work(room.desk, board, sizes, rules, asked, room.watched);
     }
+    calls::call(room.desk, board, sizes, rules, command, asked)
+}
+
+fn with_desk(room: Room, desk: desk::Desk) -> Room {
+    Room { desk, ..room }
 }
 
 fn look(room: Room, board: &[u8], sizes: &[u8], rules: &[u16], command: usize, seat: u32) {
@@ -88,9 +100,21 @@ fn look(room: Room, board: &[u8], sizes: &[u8], rules: &[u16], command: usize, s
         DESK => showing::desk(room.desk),
         SHARE => shown::share(lent, seat),
         LIST => list(room, lent, sizes, rules, seat),
+        CATALOGUE | NUMBERS => write_out(room, sizes, rules, command),
         DIGEST => digest::digest(room.desk, lent),
         HELP => help::help(),
         _ => {}
+    }
+}
+
+// The catalogue, as rules or as numbers.
+fn write_out(room: Room, sizes: &[u8], rules: &[u16], command: usize) {
+    let s = least(room.sizes_count, sizes.len());
+    let r = least(room.rules_count, rules.len());
+    if command == CATALOGUE {
+        written::catalogue(&sizes[0..s], &rules[0..r]);
+    } else {
+        written::numbers(&sizes[0..s], &rules[0..r]);
     }
 }
 

@@ -1,6 +1,6 @@
 // A number that tells two desks or boards apart: sixteen hexadecimal digits.
 use desk::Desk;
-use libc::STDOUT_FILENO;
+use lines::hexadecimal;
 use lines::text;
 use shown::digest::fold;
 use shown::digest::of_seat;
@@ -9,7 +9,7 @@ pub fn digest(desk: Desk, board: &[u8]) {
     let next = [desk.next];
     let with_desk = fold(of_seats(desk), &next);
     text(b"digest ");
-    io::print_hex(STDOUT_FILENO, fold(with_desk, board), 16);
+    hexadecimal(fold(with_desk, board));
     text(b"\n");
 }
 

@@ -6,6 +6,7 @@ mod fields;
 mod list;
 mod setup;
 mod showing;
+mod work;
 
 pub use commands::obey;
 use desk::Desk;
@@ -17,4 +18,5 @@ pub struct Room {
     pub board_length: usize,
     pub sizes_count: usize,
     pub rules_count: usize,
+    pub watched: bool, // by a person at a terminal
 }

@@ -4,6 +4,8 @@ use crate::calls::left;
 use crate::calls::lengths;
 use crate::calls::options_of_feature;
 use crate::calls::replacing;
+use crate::work::no_product;
+use crate::work::record_of;
 use desk::Desk;
 use lines::around;
 use lines::between;
@@ -12,6 +14,7 @@ use lines::text;
 use shown::Asked;
 use shown::named_at_work;
 use shown::options_of;
+use shown::pair;
 use shown::refused;
 
 pub fn list(desk: Desk, board: &[u8], sizes: &[u8], rules: &[u16], seat: u32) {
@@ -19,7 +22,12 @@ pub fn list(desk: Desk, board: &[u8], sizes: &[u8], rules: &[u16], seat: u32) {
     let refusal = first.number;
     if refusal == 0 {
         around(b"seat ", seat as u64, b" is ready\n");
+        no_product(record_of(desk, seat), sizes);
         features(desk, board, sizes, rules, seat);
+    } else if refusal == 33 {
+        around(b"seat ", seat as u64, b" is at work: ");
+        pair(record_of(desk, seat), sizes);
+        text(b"\n");
     } else {
         refused(refusal, lengths(board, sizes, rules), asked(seat, 0, 0));
         text(b"\n");

@@ -3,6 +3,7 @@ use crate::Room;
 use desk::Desk;
 use lines::around;
 use lines::at;
+use lines::between;
 use lines::byte;
 use lines::commands::BOARD;
 use lines::commands::MORE;
@@ -10,6 +11,7 @@ use lines::commands::RULES;
 use lines::commands::SET_BYTE;
 use lines::commands::SIZES;
 use lines::fill;
+use lines::least;
 use lines::put_rules;
 use lines::put_sizes;
 use lines::set_byte;
@@ -45,7 +47,7 @@ const TROLLEY_RULES: [u32; 24] = [
 ];
 
 // The start state.
-pub fn trolley(board: &mut [u8], sizes: &mut [u8], rules: &mut [u16]) -> Room {
+pub fn trolley(board: &mut [u8], sizes: &mut [u8], rules: &mut [u16], watched: bool) -> Room {
     fill(board, 32768, 255);
     let sizes_count = put_sizes(sizes, &TROLLEY_SIZES);
     let rules_count = put_rules(rules, 0, &TROLLEY_RULES);
@@ -58,6 +60,7 @@ pub fn trolley(board: &mut [u8], sizes: &mut [u8], rules: &mut [u16]) -> Room {
         board_length: 32768,
         sizes_count,
         rules_count,
+        watched,
     }
 }
 
@@ -71,8 +74,8 @@ pub fn set(
 ) -> Room {
     match command {
         SIZES => set_sizes(room, sizes, numbers),
-        RULES => add_rules(room, 0, rules, numbers),
-        MORE => add_rules(room, room.rules_count, rules, numbers),
+        RULES => add_rules(room, 0, sizes, rules, numbers),
+        MORE => add_rules(room, room.rules_count, sizes, rules, numbers),
         BOARD => set_board(room, board, at(numbers, 0), at(numbers, 1)),
         SET_BYTE => {
             set_byte(board, at(numbers, 0), at(numbers, 1));
@@ -80,7 +83,7 @@ pub fn set(
         }
         _ => {
             text(b"the trolley, eight seats closed\n");
-            trolley(board, sizes, rules)
+            trolley(board, sizes, rules, room.watched)
         }
     }
 }
@@ -88,16 +91,39 @@ pub fn set(
 fn set_sizes(room: Room, sizes: &mut [u8], numbers: &[u32]) -> Room {
     let mut changed = room;
     changed.sizes_count = put_sizes(sizes, numbers);
-    around(b"sizes: ", changed.sizes_count as u64, b"\n");
+    written::sizes(between(sizes, 0, changed.sizes_count));
+    say_open(room.desk);
     changed
 }
 
 // The rule list up to a place, and the numbers after it.
-fn add_rules(room: Room, from: usize, rules: &mut [u16], numbers: &[u32]) -> Room {
+fn add_rules(room: Room, from: usize, sizes: &[u8], rules: &mut [u16], numbers: &[u32]) -> Room {
     let mut changed = room;
-    changed.rules_count = put_rules(rules, from, numbers);
-    around(b"rules: ", changed.rules_count as u64, b" numbers\n");
+    let count = put_rules(rules, from, numbers);
+    changed.rules_count = count;
+    let r = least(count, rules.len());
+    written::rules(between(sizes, 0, room.sizes_count), &rules[0..r]);
+    say_open(room.desk);
     changed
+}
+
+// A new catalogue leaves the desk as it is.
+fn say_open(desk: Desk) {
+    if some_open(desk) {
+        text(b"seats are still open on the old catalogue; open begins anew\n");
+    }
+}
+
+fn some_open(desk: Desk) -> bool {
+    let seats = desk.seats;
+    let mut c = 0usize;
+    while c < 8 {
+        if !look::is_closed(seats[c]) {
+            return true;
+        }
+        c += 1;
+    }
+    false
 }
 
 fn set_board(room: Room, board: &mut [u8], length: u32, value: u32) -> Room {

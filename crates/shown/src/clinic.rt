@@ -5,6 +5,7 @@ use crate::refusal::option_of_feature;
 use lines::around;
 use lines::between;
 use lines::entries;
+use lines::least;
 use lines::masks;
 use lines::number;
 use lines::text;
@@ -39,6 +40,54 @@ fn at_work_at(place: Place) {
     around(b"", place.option as u64, b" depth ");
     around(b"", place.depth as u64, b" next ");
     number(place.next as u64);
+}
+
+// How far a seat at work is: which pair, counted from 1, of how many.
+pub fn pair(seat: Seat, sizes: &[u8]) {
+    let state = seat.state;
+    match state {
+        State::Closed => {}
+        State::Ready => {}
+        State::AtWork(place) => pair_at(place, sizes),
+    }
+}
+
+fn pair_at(place: Place, sizes: &[u8]) {
+    let before = sum(sizes, place.feature as usize);
+    let options = std::num::wrapping_add_u64(before, place.option as u64);
+    around(b"pair ", std::num::wrapping_add_u64(options, 1), b" of ");
+    number(sum(sizes, sizes.len()));
+}
+
+// Of the first sizes, so many.
+fn sum(sizes: &[u8], count: usize) -> u64 {
+    let to = least(count, sizes.len());
+    let mut sum = 0u64;
+    let mut i = 0usize;
+    while i < to {
+        sum = std::num::wrapping_add_u64(sum, byte(sizes[i]));
+        i += 1;
+    }
+    sum
+}
+
+fn byte(b: u8) -> u64 {
+    b as u64
+}
+
+// Whether no feature of so many has an option left.
+pub fn nothing_left(seat: Seat, features: usize) -> bool {
+    let masks = seat.masks;
+    let mut i = 0usize;
+    while i < 16 {
+        if i < features {
+            if masks[i] != 0 {
+                return false;
+            }
+        }
+        i += 1;
+    }
+    true
 }
 
 // Writes the number of a seat that is at work; answers 1 for such a seat, 0 for another.

@@ -20,13 +20,14 @@ pub struct Lengths {
 pub fn refused(refusal: u8, lengths: Lengths, asked: Asked) {
     around(b"refused ", refusal as u64, b": ");
     if refusal < 30 {
-        of_room(refusal, lengths);
+        words_of_room(refusal, lengths);
     } else {
         of_seat(refusal, asked);
     }
 }
 
-fn of_room(refusal: u8, lengths: Lengths) {
+// The words of what is wrong with board, catalogue or desk.
+pub fn words_of_room(refusal: u8, lengths: Lengths) {
     let rules = lengths.rules as u64;
     match refusal {
         1 => around(

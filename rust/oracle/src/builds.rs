@@ -91,24 +91,8 @@ pub fn wrong_when_ready(
     record: &Record,
     share: &[u8],
 ) -> Option<String> {
-    for feature in 0..catalogue.features() {
-        let choice = record.choices[feature];
-        // "in a ready seat a feature that has a choice shows that option alone as left"
-        if choice != NONE && record.masks[feature] != 1 << choice {
-            return Some(format!(
-                "feature {} has choice {} and shows mask {}",
-                feature, choice, record.masks[feature]
-            ));
-        }
-        // "empty where no choice is in force", and "the option in force always counts"
-        let alternatives = record.alternatives[feature];
-        let fine = if choice == NONE { alternatives == 0 } else { alternatives & (1 << choice) != 0 };
-        if !fine {
-            return Some(format!(
-                "feature {} has choice {} and alternatives {}",
-                feature, choice, alternatives
-            ));
-        }
+    if let Some(wrong) = wrong_by_choices(catalogue, record) {
+        return Some(wrong);
     }
     let builds = builds?;
     // "If the catalogue has a build, every ready seat shows at least one option for each feature;
@@ -136,6 +120,30 @@ pub fn wrong_when_ready(
         "byte {} of the share is {}, by brute force {}",
         place, share[place], examples[place]
     ))
+}
+
+/// What needs no builds to be seen.
+fn wrong_by_choices(catalogue: &Catalogue, record: &Record) -> Option<String> {
+    for feature in 0..catalogue.features() {
+        let choice = record.choices[feature];
+        // "in a ready seat a feature that has a choice shows that option alone as left"
+        if choice != NONE && record.masks[feature] != 1 << choice {
+            return Some(format!(
+                "feature {} has choice {} and shows mask {}",
+                feature, choice, record.masks[feature]
+            ));
+        }
+        // "empty where no choice is in force", and "the option in force always counts"
+        let alternatives = record.alternatives[feature];
+        let fine = if choice == NONE { alternatives == 0 } else { alternatives & (1 << choice) != 0 };
+        if !fine {
+            return Some(format!(
+                "feature {} has choice {} and alternatives {}",
+                feature, choice, alternatives
+            ));
+        }
+    }
+    None
 }
 
 /// K, pair by pair: how many steps the written search takes for each pair (i, a), with the choice

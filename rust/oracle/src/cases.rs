@@ -16,7 +16,7 @@ fn trolley() -> Catalogue {
 }
 
 /// The transcript's lines, without the end line.
-fn answers(script: &str) -> Vec<String> {
+pub(crate) fn answers(script: &str) -> Vec<String> {
     let (out, session) = transcript(script.as_bytes());
     assert_eq!(session.run.problems, Vec::<String>::new());
     let text = String::from_utf8(out).unwrap();
@@ -25,7 +25,7 @@ fn answers(script: &str) -> Vec<String> {
     lines
 }
 
-fn last(script: &str) -> String {
+pub(crate) fn last(script: &str) -> String {
     answers(script).pop().unwrap()
 }
 
@@ -545,7 +545,7 @@ fn refusals_of_alternatives_in_their_order() {
     // A made-up seat with none, and how that reads.
     let none = "set-ready 0\nset-choice 0 2 1\n";
     assert_eq!(last(&format!("{}alternatives 0 2\n", none)), "feature 2: 0 alternatives");
-    assert_eq!(answers(&format!("{}list 0\n", none))[5], "feature 2: 0 left; chosen; alternatives:");
+    assert_eq!(answers(&format!("{}list 0\n", none))[6], "feature 2: 0 left; chosen; alternatives:");
     assert_eq!(last("alternatives 0\n"), "not understood; write: alternatives SEAT FEATURE");
     let form = "not understood; write: set-alternatives SEAT FEATURE MASK";
     for numbers in ["8 0 0", "0 16 0", "0 0 65536", "0 0"] {
@@ -586,13 +586,13 @@ fn lines_of_the_console() {
     let (out, _) = transcript(script.as_bytes());
     assert_eq!(
         String::from_utf8(out).unwrap(),
-        "#remark \r\nnot understood; help lists the commands\n\
+        "#remark \r\n # none\n\
          not understood; write: enter SEAT\nnot understood; write: enter SEAT\n\
          not understood; write: enter SEAT\nseat 3 has entered and is at work\n\
          not understood; write: turns TURNS\nnot understood; write: set-byte PLACE BYTE\n\
          board: 0 bytes of 7\nnot understood; write: set-byte PLACE BYTE\n\
          the board has 0 bytes, so no shares\nrefused 1: the board has 0 bytes, not 32768\n\
-         at work: 3\nend: 5 answered, 7 not understood\n"
+         at work: 3\nend: 5 answered, 6 not understood\n"
     );
 }
 

@@ -71,24 +71,9 @@ pub fn compare(wish: &Wish) -> bool {
 /// Script after script until there is enough, or a difference.
 fn work(wish: &Wish, console: &Console, shared: &Mutex<Shared>, start: Instant) {
     loop {
-        let number = {
-            let mut shared = match shared.lock() {
-                Ok(shared) => shared,
-                Err(_) => return,
-            };
-            let enough = match wish.seconds {
-                Some(seconds) => start.elapsed() >= Duration::from_secs(seconds),
-                // Scripts under way elsewhere are counted as if they were done.
-                None => {
-                    let under_way = shared.scripts * generate::CALLS_OF_A_SCRIPT;
-                    shared.tally.all_calls().max(under_way) >= wish.calls
-                }
-            };
-            if enough || shared.found.is_some() {
-                return;
-            }
-            shared.scripts += 1;
-            shared.scripts
+        let number = match next_number(wish, shared, start) {
+            Some(number) => number,
+            None => return,
         };
         // Every script has a seed of its own, whichever thread plays it.
         let seed = Random::new(wish.seed.wrapping_add(number.wrapping_mul(0x2545_f491_4f6c_dd1d))).next();
@@ -117,6 +102,24 @@ fn work(wish: &Wish, console: &Console, shared: &Mutex<Shared>, start: Instant) 
             }
         }
     }
+}
+
+/// The number of the next script; None if there is enough, or a difference.
+fn next_number(wish: &Wish, shared: &Mutex<Shared>, start: Instant) -> Option<u64> {
+    let mut shared = shared.lock().ok()?;
+    let enough = match wish.seconds {
+        Some(seconds) => start.elapsed() >= Duration::from_secs(seconds),
+        // Scripts under way elsewhere are counted as if they were done.
+        None => {
+            let under_way = shared.scripts * generate::CALLS_OF_A_SCRIPT;
+            shared.tally.all_calls().max(under_way) >= wish.calls
+        }
+    };
+    if enough || shared.found.is_some() {
+        return None;
+    }
+    shared.scripts += 1;
+    Some(shared.scripts)
 }
 
 /// Calls of a script up to and with one of its lines.
@@ -164,9 +167,7 @@ fn show(difference: &Difference) {
 /// Both desks and boards at that point: those lines that differ.
 fn both_desks(console: &Console, shrunk: &Shrunk) {
     let mut lines = shrunk.lines.clone();
-    if lines.last().map_or(false, |line| line.starts_with(b"quit")) {
-        lines.pop();
-    }
+    lines.truncate(before_the_end(&lines));
     lines.push(b"# both desks".to_vec());
     lines.push(b"desk".to_vec());
     for seat in 0..8 {
@@ -184,6 +185,16 @@ fn both_desks(console: &Console, shrunk: &Shrunk) {
             println!("  {}: {}", side, line);
         }
     }
+}
+
+/// How many lines stand before `quit` or `exit`.
+fn before_the_end(lines: &[Vec<u8>]) -> usize {
+    let mut session = Session::new();
+    let ends = |line: &Vec<u8>| {
+        session.line(line, &mut Vec::new());
+        session.over
+    };
+    lines.iter().position(ends).unwrap_or(lines.len())
 }
 
 fn after_remark(transcript: &[u8]) -> Vec<String> {

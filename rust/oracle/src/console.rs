@@ -1,7 +1,7 @@
 //! Runs the console on a script and takes its transcript.
 
-use std::io::{Read, Write};
-use std::process::{Command, Stdio};
+use std::io::{self, Read, Write};
+use std::process::{Child, Command, ExitStatus, Stdio};
 use std::sync::mpsc;
 use std::thread;
 use std::time::Duration;
@@ -22,16 +22,19 @@ pub struct Console {
 }
 
 impl Console {
-    /// `limit`: a console that prints more bytes than this prints too much.
-    pub fn play(&self, script: Vec<u8>, limit: usize) -> Played {
-        let started = Command::new("sh")
+    fn start(&self) -> io::Result<Child> {
+        Command::new("sh")
             .arg("-c")
             .arg(format!("exec {}", self.command)) // so that `kill` reaches the console itself
             .stdin(Stdio::piped())
             .stdout(Stdio::piped())
             .stderr(if self.loud { Stdio::inherit() } else { Stdio::null() })
-            .spawn();
-        let mut child = match started {
+            .spawn()
+    }
+
+    /// `limit`: a console that prints more bytes than this prints too much.
+    pub fn play(&self, script: Vec<u8>, limit: usize) -> Played {
+        let mut child = match self.start() {
             Err(error) => return broken(format!("can't be started: {}", error)),
             Ok(child) => child,
         };
@@ -66,12 +69,15 @@ impl Console {
         }
         let status = child.wait();
         let _ = writer.join();
-        let trouble = match status {
-            Ok(status) if status.success() => None,
-            Ok(status) => Some(format!("ends with {}", status)),
-            Err(error) => Some(format!("can't be waited for: {}", error)),
-        };
-        Played { transcript, trouble }
+        Played { transcript, trouble: trouble_of(status) }
+    }
+}
+
+fn trouble_of(status: io::Result<ExitStatus>) -> Option<String> {
+    match status {
+        Ok(status) if status.success() => None,
+        Ok(status) => Some(format!("ends with {}", status)),
+        Err(error) => Some(format!("can't be waited for: {}", error)),
     }
 }
 

@@ -38,10 +38,7 @@ pub fn between(
     }
     let ours = expect::lines(expected);
     let theirs = expect::lines(answered);
-    let mut place = 0;
-    while place < ours.len() && place < theirs.len() && ours[place] == theirs[place] {
-        place += 1;
-    }
+    let place = ours.iter().zip(&theirs).take_while(|(our, their)| our == their).count();
     let shown = |lines: &[&[u8]]| match lines.get(place) {
         None => match trouble {
             None => "(nothing more)".to_string(),
@@ -71,10 +68,16 @@ fn line_that_answers(script: &[Vec<u8>], place: usize) -> usize {
     script.len()
 }
 
-/// Runs both on a script.
+/// Turns of one `work` above which a script is not played: one that lost a rule may search for ever.
+const WORK_LIMIT: u64 = 500_000;
+
+/// Runs both on a script, unless it would take too long.
 pub fn of_script(console: &Console, script: &[Vec<u8>], last_line_feed: bool) -> Option<Difference> {
     let text = generate::text(script, last_line_feed);
-    let (expected, session) = expect::transcript(&text);
+    let (expected, session) = expect::transcript_within(&text, WORK_LIMIT);
+    if session.given_up {
+        return None;
+    }
     let played = console.play(text, expected.len() + 1_000_000);
     between(script, &expected, &played.transcript, played.trouble.as_deref(), &session.run.problems)
 }

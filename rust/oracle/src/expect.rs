@@ -14,7 +14,13 @@ pub fn lines(script: &[u8]) -> Vec<&[u8]> {
 
 /// The whole transcript of one script from the start state, and the session after it.
 pub fn transcript(script: &[u8]) -> (Vec<u8>, Session) {
+    transcript_within(script, u64::MAX)
+}
+
+/// The same, given up where one `work` makes more turns than `work_limit`.
+pub fn transcript_within(script: &[u8], work_limit: u64) -> (Vec<u8>, Session) {
     let mut session = Session::new();
+    session.work_limit = work_limit;
     let mut out = Vec::new();
     for line in lines(script) {
         session.line(line, &mut out);
@@ -35,12 +41,10 @@ pub fn expect(files: &[String]) -> io::Result<bool> {
         write(&out)
     };
     if files.is_empty() {
-        let mut script = Vec::new();
-        io::stdin().read_to_end(&mut script)?;
-        answer(&script)?;
+        answer(&script_of("-")?)?;
     }
     for name in files {
-        match std::fs::read(name) {
+        match script_of(name) {
             Err(_) => write(format!("script {} can't be read\n", name).as_bytes())?,
             Ok(script) => {
                 write(format!("script {}\n", name).as_bytes())?;
@@ -49,6 +53,16 @@ pub fn expect(files: &[String]) -> io::Result<bool> {
         }
     }
     Ok(good)
+}
+
+/// "`-` names standard input".
+fn script_of(name: &str) -> io::Result<Vec<u8>> {
+    if name != "-" {
+        return std::fs::read(name);
+    }
+    let mut script = Vec::new();
+    io::stdin().read_to_end(&mut script)?;
+    Ok(script)
 }
 
 /// Whoever reads the transcript may stop before its end.

@@ -53,74 +53,92 @@ pub fn misfit(next: u8, seats: &[Record], catalogue: &Catalogue) -> Option<Claus
 }
 
 fn misfit_of_seat(record: &Record, catalogue: &Catalogue) -> Option<Clause> {
-    let size = |feature: usize| catalogue.sizes[feature];
-    let features = catalogue.features();
+    misfit_of_features(record, catalogue)
+        .or_else(|| misfit_of_place(record, catalogue))
+        .or_else(|| misfit_of_closed(record))
+        .or_else(|| misfit_of_alternatives(record, catalogue))
+}
+
+fn misfit_of_features(record: &Record, catalogue: &Catalogue) -> Option<Clause> {
     for feature in 0..FEATURES {
         let (choice, mask) = (record.choices[feature], record.masks[feature]);
-        if feature < features {
-            if choice != NONE && choice >= size(feature) {
-                return Some(Clause::Choice);
+        match catalogue.sizes.get(feature) {
+            Some(&size) => {
+                if choice != NONE && choice >= size {
+                    return Some(Clause::Choice);
+                }
+                // In 32 bits: a shift by 16 leaves nothing.
+                if u32::from(mask) >> size != 0 {
+                    return Some(Clause::Mask);
+                }
             }
-            // In 32 bits: a shift by 16 leaves nothing.
-            if u32::from(mask) >> size(feature) != 0 {
-                return Some(Clause::Mask);
-            }
-        } else {
-            if choice != NONE {
-                return Some(Clause::ChoiceOfMissing);
-            }
-            if mask != 0 {
-                return Some(Clause::MaskOfMissing);
+            None => {
+                if choice != NONE {
+                    return Some(Clause::ChoiceOfMissing);
+                }
+                if mask != 0 {
+                    return Some(Clause::MaskOfMissing);
+                }
             }
         }
     }
-    match record.state {
-        State::AtWork { i, a, j, v } => {
-            let (i, j) = (usize::from(i), usize::from(j));
-            if i >= features {
-                return Some(Clause::PlaceFeature);
-            }
-            if j >= features {
-                return Some(Clause::PlaceDepth);
-            }
-            if a >= size(i) {
-                return Some(Clause::PlaceOption);
-            }
-            if v >= size(j) {
-                return Some(Clause::PlaceNext);
-            }
-            if (0..j).any(|entry| record.trial[entry] >= size(entry)) {
-                return Some(Clause::TrialBefore);
-            }
-            // "any other trial entry that isn't 255": trial[j] itself and all after it.
-            if (j..FEATURES).any(|entry| record.trial[entry] != NONE) {
-                return Some(Clause::TrialFromDepth);
-            }
-        }
+    None
+}
+
+fn misfit_of_place(record: &Record, catalogue: &Catalogue) -> Option<Clause> {
+    let size = |feature: usize| catalogue.sizes[feature];
+    let (i, a, j, v) = match record.state {
+        State::AtWork { i, a, j, v } => (usize::from(i), a, usize::from(j), v),
         State::Closed | State::Ready => {
-            if record.trial.iter().any(|&entry| entry != NONE) {
-                return Some(Clause::TrialNotAtWork);
-            }
+            let other = record.trial.iter().any(|&entry| entry != NONE);
+            return if other { Some(Clause::TrialNotAtWork) } else { None };
         }
+    };
+    if i >= catalogue.features() {
+        return Some(Clause::PlaceFeature);
     }
-    if record.state == State::Closed {
-        if record.choices.iter().any(|&choice| choice != NONE) {
-            return Some(Clause::ClosedChoice);
-        }
-        if record.masks.iter().any(|&mask| mask != 0) {
-            return Some(Clause::ClosedMask);
-        }
+    if j >= catalogue.features() {
+        return Some(Clause::PlaceDepth);
     }
-    // "number 20 also for such a bit not below the size or at a feature with no choice". A
-    // missing feature has none by now, nor has a closed seat; that the option in force has its bit
-    // is not asked.
+    if a >= size(i) {
+        return Some(Clause::PlaceOption);
+    }
+    if v >= size(j) {
+        return Some(Clause::PlaceNext);
+    }
+    if (0..j).any(|entry| record.trial[entry] >= size(entry)) {
+        return Some(Clause::TrialBefore);
+    }
+    // "any other trial entry that isn't 255": trial[j] itself and all after it.
+    if (j..FEATURES).any(|entry| record.trial[entry] != NONE) {
+        return Some(Clause::TrialFromDepth);
+    }
+    None
+}
+
+fn misfit_of_closed(record: &Record) -> Option<Clause> {
+    if record.state != State::Closed {
+        return None;
+    }
+    if record.choices.iter().any(|&choice| choice != NONE) {
+        return Some(Clause::ClosedChoice);
+    }
+    if record.masks.iter().any(|&mask| mask != 0) {
+        return Some(Clause::ClosedMask);
+    }
+    None
+}
+
+/// "number 20 also for such a bit not below the size or at a feature with no choice". A missing
+/// feature has none by now, nor has a closed seat; that the option in force has its bit is not asked.
+fn misfit_of_alternatives(record: &Record, catalogue: &Catalogue) -> Option<Clause> {
     for feature in 0..FEATURES {
         let alternatives = record.alternatives[feature];
         if record.choices[feature] == NONE {
             if alternatives != 0 {
                 return Some(Clause::AlternativeWithoutChoice);
             }
-        } else if u32::from(alternatives) >> size(feature) != 0 {
+        } else if u32::from(alternatives) >> catalogue.sizes[feature] != 0 {
             return Some(Clause::Alternative);
         }
     }

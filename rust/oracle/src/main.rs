@@ -2,9 +2,12 @@
 //! compares a console with it.
 
 mod builds;
+mod calls;
 mod catalogue;
 #[cfg(test)]
 mod cases;
+#[cfg(test)]
+mod cases_console;
 mod compare;
 mod console;
 mod desk;
@@ -17,6 +20,7 @@ mod record;
 mod run;
 mod script;
 mod search;
+mod set;
 mod shrink;
 mod tally;
 mod words;

@@ -2,6 +2,7 @@
 
 use crate::console::Console;
 use crate::difference::{self, Difference};
+use crate::script::MARK;
 use std::time::{Duration, Instant};
 
 pub struct Shrunk {
@@ -40,6 +41,7 @@ pub fn shrink(
         shrinker.forget_choices();
         shrinker.lower_depths();
         shrinker.remove_windows();
+        shrinker.plainer_lines();
         shrinker.remove_numbers();
         shrinker.smaller_numbers();
         if shrinker.best.lines == before && !shrinker.remove_with_another() {
@@ -188,6 +190,19 @@ impl Shrinker<'_> {
         false
     }
 
+    /// Lines without their byte-order mark, and with single blanks alone.
+    fn plainer_lines(&mut self) {
+        for line in 0..self.best.lines.len() {
+            for plainer in plainer(self.best.lines.get(line).map_or(&[][..], |line| line)) {
+                let mut lines = self.best.lines.clone();
+                if let Some(place) = lines.get_mut(line) {
+                    *place = plainer;
+                    self.take_if_different(lines);
+                }
+            }
+        }
+    }
+
     /// Numbers of the lines that take any count of them (sizes, rules, more), in halving chunks.
     fn remove_numbers(&mut self) {
         let mut line = 0;
@@ -273,6 +288,18 @@ fn edits(line: &[u8]) -> Vec<Vec<u8>> {
     edits
 }
 
+/// A line in plainer forms, those that are others than itself.
+fn plainer(line: &[u8]) -> Vec<Vec<u8>> {
+    let unmarked = line.strip_prefix(MARK).unwrap_or(line);
+    let words: Vec<&[u8]> = unmarked
+        .split(|byte| matches!(byte, b' ' | b'\t' | b',' | b'\r'))
+        .filter(|word| !word.is_empty())
+        .collect();
+    let mut forms = vec![unmarked.to_vec(), words.join(&b' ')];
+    forms.retain(|form| &form[..] != line);
+    forms
+}
+
 /// A line that sets a field of a seat.
 fn field_of(line: &[u8]) -> Option<(String, Vec<u64>)> {
     let (word, numbers) = parts(line)?;
@@ -299,4 +326,17 @@ fn whole(word: &str, numbers: &[u64]) -> Vec<u8> {
         text.push_str(&format!(" {}", number));
     }
     text.into_bytes()
+}
+
+#[cfg(test)]
+mod tests {
+    use super::plainer;
+
+    #[test]
+    fn plainer_forms_of_a_line() {
+        assert!(plainer(b"enter 3").is_empty());
+        assert!(plainer(b"").is_empty());
+        assert_eq!(plainer(b",enter\t3\r"), [b"enter 3".to_vec()]);
+        assert_eq!(plainer(b"\xef\xbb\xbf enter 3"), [b" enter 3".to_vec(), b"enter 3".to_vec()]);
+    }
 }

@@ -1,10 +1,11 @@
 //! The console's words: forms of the commands, refusals, records, examples, the digest.
 
+use crate::catalogue::{Fault, Place};
 use crate::desk::{Desk, Lent};
 use crate::record::{Record, State, NONE};
 
 /// Each command's form, "just as the first column has it"; the first word is the command.
-pub const FORMS: [&str; 30] = [
+pub const FORMS: [&str; 34] = [
     "open",
     "enter SEAT",
     "leave SEAT",
@@ -14,6 +15,7 @@ pub const FORMS: [&str; 30] = [
     "alternatives SEAT FEATURE",
     "example SEAT FEATURE OPTION",
     "turns TURNS",
+    "work SEAT",
     "trolley",
     "sizes SIZE ...",
     "rules NUMBER ...",
@@ -32,14 +34,17 @@ pub const FORMS: [&str; 30] = [
     "desk",
     "share SEAT",
     "list SEAT",
+    "catalogue",
+    "numbers",
     "digest",
     "help",
     "quit",
+    "exit",
 ];
 
-/// The desk's calls, those that are counted.
-pub const CALLS: [&str; 9] =
-    ["open", "enter", "leave", "choose", "relax", "options", "alternatives", "example", "turns"];
+/// The desk's calls, those that are counted; `work` counts as one, whatever it asks for.
+pub const CALLS: [&str; 10] =
+    ["open", "enter", "leave", "choose", "relax", "options", "alternatives", "example", "turns", "work"];
 
 pub fn form_of(word: &str) -> Option<&'static str> {
     FORMS
@@ -79,8 +84,13 @@ pub fn say(out: &mut Vec<u8>, text: &str) {
 }
 
 pub fn refusal(number: u16, spoken: Spoken) -> String {
+    format!("refused {}: {}", number, reason(number, spoken))
+}
+
+/// The words of a refusal, which are those of a fault too.
+fn reason(number: u16, spoken: Spoken) -> String {
     let Spoken { board, features, numbers, seat, feature, option } = spoken;
-    let words = match number {
+    match number {
         1 => format!("the board has {} bytes, not 32768", board),
         10 => format!("the catalogue has {} features, not 1 to 16", features),
         11 => "a size is 0 or above 16".to_string(),
@@ -102,9 +112,28 @@ pub fn refusal(number: u16, spoken: Spoken) -> String {
         37 => format!("option {} of feature {} is not left", option, feature),
         38 => format!("feature {} has no choice", feature),
         other => format!("a number that the table lacks, {}", other),
-    };
-    format!("refused {}: {}", number, words)
+    }
 }
+
+/// "`fault `, its number, where it was met, `: ` and the words of that refusal".
+pub fn fault(fault: Fault, lent: Lent) -> String {
+    let place = match fault.place {
+        Place::Nowhere => String::new(),
+        Place::Feature(feature) => format!(" in feature {}", feature),
+        Place::Rule(rule) => format!(" in rule {}", rule),
+        Place::Row(rule, row) => format!(" in rule {}, row {}", rule, row),
+    };
+    let reason = reason(fault.number, Spoken::of(&[], lent, &[]));
+    format!("fault {}{}: {}", fault.number, place, reason)
+}
+
+/// "One is written `1 number` …, any other count, 0 too, with the s."
+pub fn counted(count: usize, what: &str) -> String {
+    format!("{} {}{}", count, what, if count == 1 { "" } else { "s" })
+}
+
+/// Of a seat's record in which no feature has an option left.
+pub const NO_PRODUCT: &str = "no product satisfies these rules";
 
 /// Options or bytes "in decimal, `-` for 255", a blank before each.
 pub fn entries(bytes: &[u8]) -> String {

@@ -2,10 +2,19 @@
 //! chosen with the desk in view.
 
 use super::catalogues::Draft;
+use super::noise;
 use super::random::Random;
 use crate::desk::{Desk, BOARD, SEATS};
+use crate::expect;
 use crate::record::{State, NONE};
-use crate::script::Session;
+use crate::script::{Session, MARK};
+use crate::tally::Seen;
+
+/// Turns that `work` may take: mostly few, sometimes more than one call of turns makes, as long as
+/// the script has not yet spent so much on it.
+const FEW: u64 = 8_192;
+pub const MANY: u64 = 4 * 65_535;
+const SPENT: u64 = 80_000;
 
 pub struct Author {
     pub random: Random,
@@ -25,8 +34,25 @@ impl Author {
     }
 
     pub fn line<T: AsRef<[u8]>>(&mut self, text: T) {
-        self.session.line(text.as_ref(), &mut self.transcript);
-        self.lines.push(text.as_ref().to_vec());
+        let mut line = text.as_ref().to_vec();
+        if self.random.once_in(40) && line.len() < 60_000 {
+            line = self.disguised(line);
+        }
+        self.session.line(&line, &mut self.transcript);
+        self.lines.push(line);
+    }
+
+    /// The same line with a byte-order mark before it, or other blanks before, between, after.
+    fn disguised(&mut self, line: Vec<u8>) -> Vec<u8> {
+        let count = self.random.between(1, 3);
+        let blanks: Vec<u8> = (0..count).map(|_| self.random.pick(b" \t,\r")).collect();
+        match self.random.below(6) {
+            0 | 1 => [MARK, &line[..]].concat(),
+            2 => [MARK, &blanks[..], &line[..]].concat(),
+            3 => [&blanks[..], &line[..]].concat(),
+            4 => [&line[..], &blanks[..]].concat(),
+            _ => line.split(|&byte| byte == b' ').collect::<Vec<_>>().join(&blanks[..]),
+        }
     }
 
     /// A call and, after every call, a digest; the longer looks now and then.
@@ -42,8 +68,53 @@ impl Author {
                 let seat = self.random.near(SEATS);
                 self.line(format!("list {}", seat));
             }
+            13 => self.line("catalogue"),
+            14 => self.line("numbers"),
+            15 => self.line(&b" \t,\r# a remark, 1 2 3"[seat.min(4)..]),
+            16 | 17 => noise::odd(self),
             _ => {}
         }
+    }
+
+    /// What `numbers` answers, given back as it is.
+    pub fn give_back(&mut self) {
+        let from = self.transcript.len();
+        self.line("numbers");
+        let answer = self.transcript[from..].to_vec();
+        for line in expect::lines(&answer) {
+            self.line(line);
+        }
+        self.session.tally.see(Seen::GivenBack);
+    }
+
+    /// `work` where that does not take long; else nothing, and false.
+    pub fn work(&mut self, seat: u32) -> bool {
+        let spent = self.session.tally.work_steps >= SPENT;
+        let limit = if !spent && self.random.once_in(8) { MANY } else { FEW };
+        self.work_within(seat, limit)
+    }
+
+    pub fn work_within(&mut self, seat: u32, limit: u64) -> bool {
+        let short = self.is_ready_within(seat, limit);
+        if short {
+            self.call(format!("work {}", seat));
+        }
+        short
+    }
+
+    /// Plays `work` before on a copy of desk and board; what it would refuse takes no turn.
+    fn is_ready_within(&self, seat: u32, limit: u64) -> bool {
+        let lent = self.session.lent();
+        let mut desk = self.session.desk.clone();
+        if desk.options(&self.session.board, lent, seat, 0).refusal != 33 {
+            return true;
+        }
+        let mut board = self.session.board.clone();
+        let mut made = 0;
+        while desk.seats[seat as usize].at_work() && made < limit {
+            made += u64::from(desk.turns(&mut board, lent, FEW as u16).made);
+        }
+        !desk.seats[seat as usize].at_work()
     }
 
     pub fn features(&self) -> usize {
@@ -140,7 +211,7 @@ impl Author {
         let feature = self.random.near(self.features());
         let known = (feature as usize).min(15);
         let option = self.random.near(self.size(known));
-        let text = match self.random.below(33) {
+        let text = match self.random.below(36) {
             0 => "open".to_string(),
             1..=4 => format!("enter {}", seat),
             5..=8 => format!("leave {}", seat),
@@ -151,6 +222,11 @@ impl Author {
             25..=28 => {
                 let seat = if self.random.once_in(4) { self.random.near(SEATS) } else { seat };
                 format!("alternatives {} {}", seat, feature)
+            }
+            29..=31 => {
+                let seat = if self.random.once_in(4) { self.random.near(SEATS) } else { seat };
+                let word = if self.is_ready_within(seat, FEW) { "work" } else { "leave" };
+                format!("{} {}", word, seat)
             }
             _ => format!("turns {}", self.some_turns()),
         };

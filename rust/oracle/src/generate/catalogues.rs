@@ -85,17 +85,8 @@ fn rule(random: &mut Random, sizes: &[u8], planted: Option<&[u16]>) -> Vec<u16> 
         // Each possible row with some likelihood.
         let tenths = random.between(3, 9);
         for number in 0..product {
-            let mut rest = number;
-            let row: Vec<u16> = scope
-                .iter()
-                .map(|&feature| {
-                    let option = rest % size(feature);
-                    rest /= size(feature);
-                    option as u16
-                })
-                .collect();
             if random.below(10) < tenths {
-                rows.push(row);
+                rows.push(possible_row(sizes, &scope, number));
             }
         }
     } else {
@@ -121,4 +112,16 @@ fn rule(random: &mut Random, sizes: &[u8], planted: Option<&[u16]>) -> Vec<u16> 
     numbers.extend(scope);
     numbers.extend(rows.concat());
     numbers
+}
+
+/// The possible rows of a scope, numbered.
+fn possible_row(sizes: &[u8], scope: &[u16], number: usize) -> Vec<u16> {
+    let mut rest = number;
+    let mut row = Vec::new();
+    for &feature in scope {
+        let size = usize::from(sizes[usize::from(feature)]);
+        row.push((rest % size) as u16);
+        rest /= size;
+    }
+    row
 }

@@ -3,7 +3,7 @@
 use super::catalogues::{self, scope, Draft};
 use super::random::Random;
 
-pub const KINDS: usize = 13;
+pub const KINDS: usize = 14;
 
 /// A catalogue at an edge of its kind; about half are accepted.
 pub fn at_edge(random: &mut Random, kind: usize) -> Draft {
@@ -21,18 +21,8 @@ pub fn at_edge(random: &mut Random, kind: usize) -> Draft {
         9 => row_option(random, &mut draft),
         10 => junk(random, &mut draft),
         11 => one_number(random, &mut draft),
-        _ => {
-            // Two faults at once: the one met first is given.
-            let first = random.below(11);
-            let second = random.below(11);
-            draft = at_edge(random, first);
-            let other = at_edge(random, second);
-            if random.once_in(2) {
-                draft.sizes = other.sizes;
-            } else {
-                draft.rules.extend(other.rules);
-            }
-        }
+        12 => draft = late(random),
+        _ => draft = two_faults(random),
     }
     if (2..12).contains(&kind) && random.once_in(if kind == 2 { 3 } else { 6 }) {
         // A fault of the sizes is met before every fault of the list.
@@ -45,6 +35,32 @@ pub fn at_edge(random: &mut Random, kind: usize) -> Draft {
         rule.truncate(room);
         room -= rule.len();
     }
+    draft
+}
+
+/// Two faults at once: the one met first is given.
+fn two_faults(random: &mut Random) -> Draft {
+    let first = random.below(11);
+    let second = random.below(11);
+    let mut draft = at_edge(random, first);
+    let other = at_edge(random, second);
+    if random.once_in(2) {
+        draft.sizes = other.sizes;
+    } else {
+        draft.rules.extend(other.rules);
+    }
+    draft
+}
+
+/// 14 to 18 with many good rules before.
+fn late(random: &mut Random) -> Draft {
+    let kind = random.pick(&[4, 5, 6, 7, 8, 9, 9]);
+    let mut draft = at_edge(random, kind);
+    let before = random.between(1, 62);
+    // Feature 0 has option 0 in any catalogue that is accepted.
+    let mut rules = vec![vec![1, 1, 0, 0]; before];
+    rules.append(&mut draft.rules);
+    draft.rules = rules;
     draft
 }
 

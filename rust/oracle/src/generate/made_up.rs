@@ -143,7 +143,8 @@ fn pair_chosen_otherwise(author: &mut Author, record: &Record) -> Option<(usize,
 /// Few steps at a time, so that the digest sees each.
 fn next_call(author: &mut Author) {
     let seat = author.random.below(SEATS);
-    match author.session.desk.seats[seat].state {
+    let state = author.session.desk.seats[seat].state;
+    match state {
         State::Ready if author.random.once_in(2) => {
             let feature = author.random.below(author.features());
             let option = author.random.below(author.size(feature));
@@ -156,6 +157,7 @@ fn next_call(author: &mut Author) {
             }
         }
         _ if author.random.once_in(6) => author.any_call(seat),
+        _ if author.random.once_in(12) && author.work(seat as u32) => {}
         _ => {
             let turns = author.random.pick(&[1, 1, 1, 1, 2, 3, 5, 8, 40]);
             author.call(format!("turns {}", turns));
@@ -165,19 +167,29 @@ fn next_call(author: &mut Author) {
 
 /// One field set to a value at either side of a clause.
 fn edge(author: &mut Author, seat: usize) {
-    let features = author.features();
-    let known = author.random.below(features);
-    let size = author.size(known);
-    let missing = if features < 16 { author.random.between(features, 15) } else { 15 };
-    // A feature that has a choice, where one has (a missing one may, by an earlier edge).
-    let chosen = author.chosen(seat).unwrap_or(known);
-    let size_of_chosen = author.size(chosen).max(1);
-    let entry = if author.random.once_in(3) { 15 } else { author.random.below(16) };
-    let (i, a, j, v) = place_of(author, seat);
-    let size_of_i = author.size(i);
-    let size_of_j = author.size(j);
     let text = match author.random.below(20) {
         0 => format!("set-next {}", author.random.pick(&[0, 6, 7, 8, 9, 16, 255])),
+        kind @ 1..=4 => edge_of_feature(author, seat, kind),
+        kind @ 5..=8 => edge_of_place(author, seat, kind),
+        kind @ 9..=11 => edge_of_trial(author, seat, kind),
+        12 => format!("set-closed {}", seat),
+        kind @ 13..=18 => edge_of_alternatives(author, seat, kind),
+        _ => format!("set-ready {}", seat),
+    };
+    author.line(text);
+}
+
+/// A feature of the catalogue, its size, and a feature that it lacks, if it lacks one.
+fn known_and_missing(author: &mut Author) -> (usize, usize, usize) {
+    let features = author.features();
+    let known = author.random.below(features);
+    let missing = if features < 16 { author.random.between(features, 15) } else { 15 };
+    (known, author.size(known), missing)
+}
+
+fn edge_of_feature(author: &mut Author, seat: usize, kind: usize) -> String {
+    let (known, size, missing) = known_and_missing(author);
+    match kind {
         1 => {
             let option = author.random.pick(&[0, size - 1, size, size + 1, 16, 254, 255]);
             format!("set-choice {} {} {}", seat, known, option)
@@ -190,59 +202,63 @@ fn edge(author: &mut Author, seat: usize) {
             let mask = author.random.pick(&[(1 << size) - 1, 1 << size, 1 << (size - 1), 32_768, 65_535]);
             format!("set-mask {} {} {}", seat, known, mask & 65_535)
         }
-        4 => {
+        _ => {
             let mask = author.random.pick(&[0, 1, 256, 32_768, 65_535]);
             format!("set-mask {} {} {}", seat, missing, mask)
         }
-        5 => {
-            let i = author.random.pick(&[features - 1, features, 15, 16, 255]);
-            format!("set-work {} {} {} {} {}", seat, i, a, j, v)
-        }
-        6 => {
-            let j = author.random.pick(&[0, j + 1, features - 1, features, 15, 16, 255]);
-            format!("set-work {} {} {} {} {}", seat, i, a, j, v)
-        }
-        7 => {
-            let a = author.random.pick(&[size_of_i - 1, size_of_i, 16, 255]);
-            format!("set-work {} {} {} {} {}", seat, i, a, j, v)
-        }
-        8 => {
-            let v = author.random.pick(&[size_of_j - 1, size_of_j, 16, 255]);
-            format!("set-work {} {} {} {} {}", seat, i, a, j, v)
-        }
+    }
+}
+
+fn edge_of_place(author: &mut Author, seat: usize, kind: usize) -> String {
+    let features = author.features();
+    let (mut i, mut a, mut j, mut v) = place_of(author, seat);
+    let (size_of_i, size_of_j) = (author.size(i), author.size(j));
+    match kind {
+        5 => i = author.random.pick(&[features - 1, features, 15, 16, 255]),
+        6 => j = author.random.pick(&[0, j + 1, features - 1, features, 15, 16, 255]),
+        7 => a = author.random.pick(&[size_of_i - 1, size_of_i, 16, 255]),
+        _ => v = author.random.pick(&[size_of_j - 1, size_of_j, 16, 255]),
+    }
+    format!("set-work {} {} {} {} {}", seat, i, a, j, v)
+}
+
+fn edge_of_trial(author: &mut Author, seat: usize, kind: usize) -> String {
+    let (_, _, j, _) = place_of(author, seat);
+    let (entry, option) = match kind {
         9 => {
             let before = if j == 0 { 0 } else { author.random.below(j) };
             let size = author.size(before);
-            let option = author.random.pick(&[size - 1, size, 254, 255]);
-            format!("set-trial {} {} {}", seat, before, option)
+            (before, author.random.pick(&[size - 1, size, 254, 255]))
         }
-        10 => {
-            let from = author.random.pick(&[j, j, (j + 1).min(15), 15]);
-            format!("set-trial {} {} {}", seat, from, author.random.pick(&[0, 254, 255]))
+        10 => (author.random.pick(&[j, j, (j + 1).min(15), 15]), author.random.pick(&[0, 254, 255])),
+        _ => {
+            let entry = if author.random.once_in(3) { 15 } else { author.random.below(16) };
+            (entry, author.random.pick(&[0, 1, 254, 255]))
         }
-        11 => format!("set-trial {} {} {}", seat, entry, author.random.pick(&[0, 1, 254, 255])),
-        12 => format!("set-closed {}", seat),
+    };
+    format!("set-trial {} {} {}", seat, entry, option)
+}
+
+fn edge_of_alternatives(author: &mut Author, seat: usize, kind: usize) -> String {
+    let (known, size, missing) = known_and_missing(author);
+    // A feature that has a choice, where one has (a missing one may, by an earlier edge).
+    let chosen = author.chosen(seat).unwrap_or(known);
+    let size_of_chosen = author.size(chosen).max(1);
+    let (feature, mask) = match kind {
         13 | 14 => {
             let size = size_of_chosen;
-            let mask = author.random.pick(&[0, (1 << size) - 1, 1 << size, 1 << (size - 1), 32_768, 65_535]);
-            format!("set-alternatives {} {} {}", seat, chosen, mask & 65_535)
+            let masks = [0, (1 << size) - 1, 1 << size, 1 << (size - 1), 32_768, 65_535];
+            (chosen, author.random.pick(&masks))
         }
-        15 | 16 => {
-            let mask = author.random.pick(&[0, 1, 1 << (size - 1), 1 << size, 32_768]);
-            format!("set-alternatives {} {} {}", seat, known, mask & 65_535)
-        }
-        17 => {
-            let mask = author.random.pick(&[0, 1, 256, 32_768, 65_535]);
-            format!("set-alternatives {} {} {}", seat, missing, mask)
-        }
+        15 | 16 => (known, author.random.pick(&[0, 1, 1 << (size - 1), 1 << size, 32_768])),
+        17 => (missing, author.random.pick(&[0, 1, 256, 32_768, 65_535])),
         // Its alternatives stay when the choice goes, or becomes another.
-        18 => {
+        _ => {
             let option = author.random.pick(&[0, size_of_chosen - 1, 255, 255]);
-            format!("set-choice {} {} {}", seat, chosen, option)
+            return format!("set-choice {} {} {}", seat, chosen, option);
         }
-        _ => format!("set-ready {}", seat),
     };
-    author.line(text);
+    format!("set-alternatives {} {} {}", seat, feature, mask & 65_535)
 }
 
 /// The seat's place, or a place that fits: depth 0 with first options.

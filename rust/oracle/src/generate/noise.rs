@@ -1,28 +1,42 @@
 //! Lines that are not understood, and lines at the edges of being understood.
 
 use super::author::Author;
+use crate::desk::SEATS;
+use crate::script::MARK;
 use crate::words::FORMS;
 
 /// Lines whole as they stand; none of them asks for `help` or ends the script.
-const ODD: [&[u8]; 40] = [
-    b"", b" ", b"\t, \r", b"\r", b"# a remark, 1 2 3", b"#", b"#open\r", b" # no remark", b"opne",
+const ODD: [&[u8]; 79] = [
+    b"", b" ", b"\t, \r", b"\r", b"# a remark, 1 2 3", b"#", b"#open\r", b" # after a space", b"opne",
     b"Open", b"OPEN", b"open 1", b"open x", b"open,", b",\topen\r", b"3 3 2", b"0", b"enter",
     b"enter 1 2", b"enter -1", b"enter +1", b"enter 1.0", b"enter 0x1", b"enter 4294967296",
     b"enter 4294967295", b"enter 99999999999999999999999999", b"enter 0000000000000000000003",
     b"enter,2", b"leave 1,", b"turns 65536", b"turns", b"turns -0", b"enter 1#", b"open\x0c",
     b"\x0bopen", b"\xff\xfe", b"# \xff\x00\x80", b"enter \xd9\xa3", b"open\x00", b"options 1",
+    b" #", b"\t# after a tab", b",#,", b"\r#\r", b" \t,\r# after all four", b"  ## two", b"x # none",
+    b"\x0b# none", b"\xef\xbb\xbf", b"\xef\xbb\xbf , \t\r", b"\xef\xbb\xbf#", b"\xef\xbb\xbf# marked",
+    b"\xef\xbb\xbf \t# marked", b"\xef\xbb\xbfdigest", b"\xef\xbb\xbf digest\r", b"\xef\xbb\xbfopne",
+    b"\xef\xbb\xbfenter", b"\xef\xbb\xbf\xef\xbb\xbf", b"\xef\xbb\xbf\xef\xbb\xbf# twice",
+    b" \xef\xbb\xbfdigest", b" \xef\xbb\xbf# none", b"\xef\xbbdigest", b"\xef\xbb", b"\xef",
+    b"\xbb\xbfdigest", b"\xfe\xffdigest", b"digest\xef\xbb\xbf", b"digest \xef\xbb\xbf", b"exit 0",
+    b"exit x", b"Exit", b"exits", b"exi", b"exit\x00", b"exit #", b"quit #", b"work", b"work x",
+    b"work 4294967296",
 ];
 
 pub fn noise(author: &mut Author) {
     for _ in 0..author.random.between(1, 4) {
         if author.random.once_in(2) {
-            let line = author.random.pick(&ODD);
-            author.line(line);
+            odd(author);
         } else {
             numbers_at_edge(author);
         }
     }
     author.line("digest");
+}
+
+pub fn odd(author: &mut Author) {
+    let line = author.random.pick(&ODD);
+    author.line(line);
 }
 
 /// A command with one number too many, one too few, or numbers around the limits of the tables.
@@ -37,8 +51,16 @@ fn numbers_at_edge(author: &mut Author) {
         1 => count = count.saturating_sub(1),
         _ => {}
     }
-    if matches!(word, "help" | "quit") && count == 0 {
+    if matches!(word, "help" | "quit" | "exit") && count == 0 {
         count = 1;
+    }
+    let seat = author.random.near(SEATS);
+    if word == "work" && count == 1 && author.work(seat) {
+        return;
+    }
+    // With one number this would be work on a seat whose search may be long.
+    if word == "work" && count == 1 {
+        count = 2;
     }
     for _ in 0..count {
         let number = author.random.pick(&[
@@ -53,6 +75,11 @@ fn numbers_at_edge(author: &mut Author) {
 /// Lines at the edge of 65,536 bytes and lists at the edges of 64 sizes and 9,000 numbers.
 pub fn long(author: &mut Author) {
     let length = author.random.pick(&[65_535, 65_536, 65_537, 70_000]);
+    // A byte-order mark counts.
+    let begin = author.random.pick(&[&b"digest"[..], b"#", b" ", b" # "]);
+    let mut line = [MARK, begin].concat();
+    line.resize(length, b' ');
+    author.line(line);
     match author.random.below(5) {
         0 => author.line(vec![b'#'; length]),
         1 => author.line(vec![b' '; length]),

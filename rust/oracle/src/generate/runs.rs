@@ -1,6 +1,6 @@
 //! Sections that are runs: an accepted catalogue, open, and then calls alone.
 
-use super::author::Author;
+use super::author::{Author, MANY};
 use super::catalogues;
 use crate::desk::SEATS;
 use crate::record::{State, NONE};
@@ -29,6 +29,27 @@ pub fn large_run(author: &mut Author) {
     for _ in 0..calls {
         next_call(author, &seats);
     }
+}
+
+/// Jobs of more turns than one call of turns makes: the last feature's rule has no row, or one that
+/// the first options do not fit, so that the search goes through all that stands before it.
+pub fn long_work(author: &mut Author) {
+    let (features, size, busy) = author.random.pick(&[(8, 3, 1), (7, 3, 3), (5, 6, 2), (6, 4, 2)]);
+    let last = features as u16 - 1;
+    let rule = if author.random.once_in(2) { vec![1, 0, last] } else { vec![2, 1, 0, last, size - 1, 0] };
+    let draft = catalogues::Draft { sizes: vec![size as u8; features], rules: vec![rule] };
+    begin(author, &draft);
+    let mut seats: Vec<usize> = (0..SEATS).collect();
+    author.random.shuffle(&mut seats);
+    for seat in &seats[..busy] {
+        author.call(format!("enter {}", seat));
+    }
+    let turns = author.random.pick(&[0, 1, 1000, 23_000, 23_001]);
+    author.call(format!("turns {}", turns));
+    author.work_within(seats[0] as u32, MANY);
+    let other = author.random.below(SEATS);
+    author.work_within(other as u32, MANY);
+    author.line(format!("list {}", seats[0]));
 }
 
 /// The trolley as the paper has it, in the middle of other things.
@@ -83,7 +104,7 @@ fn next_call(author: &mut Author, seats: &[usize]) {
         State::AtWork { .. } => {
             if author.random.once_in(25) {
                 author.call(format!("leave {}", seat));
-            } else {
+            } else if !author.random.once_in(12) || !author.work(seat as u32) {
                 let turns = author.some_turns();
                 author.call(format!("turns {}", turns));
             }
@@ -97,26 +118,14 @@ fn ready_call(author: &mut Author, seat: usize) {
     let feature = author.random.below(features);
     let option = author.random.below(author.size(feature));
     let chosen = author.chosen(seat);
-    let kind = match author.random.below(27) {
+    let kind = match author.random.below(28) {
         // No choice yet: one is made instead.
         20..=24 if chosen.is_none() => 0,
         kind => kind,
     };
     match kind {
         0..=8 => {
-            // An option that is left of a feature that has no choice, where there is one.
-            let record = &author.session.desk.seats[seat];
-            let mut left: Vec<(usize, usize)> = Vec::new();
-            for feature in 0..16 {
-                for option in 0..16 {
-                    let shown = record.masks[feature] & (1 << option) != 0;
-                    if shown && record.choices[feature] == NONE {
-                        left.push((feature, option));
-                    }
-                }
-            }
-            let (feature, option) =
-                if left.is_empty() { (feature, option) } else { author.random.pick(&left) };
+            let (feature, option) = an_option_left(author, seat).unwrap_or((feature, option));
             author.call(format!("choose {} {} {}", seat, feature, option));
         }
         9..=12 => {
@@ -137,6 +146,21 @@ fn ready_call(author: &mut Author, seat: usize) {
             let word = author.random.pick(&["example", "choose"]);
             author.call(format!("{} {} {} {}", word, seat, feature, option));
         }
+        26 => author.call(format!("work {}", seat)),
         _ => author.call(format!("choose {} {} {}", seat, feature, option)),
     }
+}
+
+/// An option that is left of a feature that has no choice, where there is one.
+fn an_option_left(author: &mut Author, seat: usize) -> Option<(usize, usize)> {
+    let record = &author.session.desk.seats[seat];
+    let mut left: Vec<(usize, usize)> = Vec::new();
+    for feature in (0..16).filter(|&feature| record.choices[feature] == NONE) {
+        let shown = (0..16).filter(|option| record.masks[feature] & (1 << option) != 0);
+        left.extend(shown.map(|option| (feature, option)));
+    }
+    if left.is_empty() {
+        return None;
+    }
+    Some(author.random.pick(&left))
 }

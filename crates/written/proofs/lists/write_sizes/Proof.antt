@@ -1,0 +1,50 @@
+use Prim.Native.Nat.{_≤_, _-_}
+use lib.ListN.{length}
+use borrow.Author.Needs.{needs}
+use Rattle.written.proofs.lists.write_sizes.Statement.{statement}
+use Rattle.written.proofs.lists.write_sizes.Tie as tie
+
+abbrev Inv-loop : tie.InvT-loop
+Inv-loop way sizes i₀ i = i ≤ length sizes
+
+abbrev μ-loop : tie.MeasureT-loop
+μ-loop way sizes i₀ i = length sizes - i
+
+loop-holds : tie.Need-loop-holds Inv-loop μ-loop
+loop-holds c = search needs
+
+shared-slice-read-byte : tie.Need-shared-slice-read-byte Inv-loop μ-loop
+shared-slice-read-byte c = search needs
+
+byte-requires : tie.Need-byte-requires Inv-loop μ-loop
+byte-requires c κs = search needs
+
+write-requires : tie.Need-write-requires Inv-loop μ-loop
+write-requires c κs = search needs
+
+add-i : tie.Need-add-i Inv-loop μ-loop
+add-i c = search needs
+
+loop-less : tie.Need-loop-less Inv-loop μ-loop
+loop-less c = search needs
+
+loop-again : tie.Need-loop-again Inv-loop μ-loop
+loop-again c = search needs
+
+returns : tie.Need-returns Inv-loop μ-loop
+returns c = search needs
+
+pub write-sizes-spec : {M : Type 1} → statement M
+write-sizes-spec =
+    tie.close
+    (tie.spec
+    Inv-loop
+    μ-loop
+    loop-holds
+    shared-slice-read-byte
+    byte-requires
+    write-requires
+    add-i
+    loop-less
+    loop-again
+    returns)
