@@ -20,8 +20,8 @@
                                                               // board[e.from] on: 1, 2, 0, then thirteen times 255
      left = nethazel_alternatives(desk, LENT, 3, 2);          // of feature 2: mask 3, count 2, options 0, chosen, and 1
 
-   Every call takes any numbers and any desk, and says by a number what can't be done (the table below); number 0 means
-   that it was done. A real host looks at the number of each answer.
+   Every call takes any numbers and any desk, and says by a number what can't be done (the list below); number 0 means
+   that it was done. A real host looks at the number of each answer; nethazel_words says what it means.
 
    A seat's states, with the calls on the arrows:
 
@@ -40,7 +40,8 @@
    wrote.
 
    Threads. Nothing is shared between calls but what the caller lends. Two threads may call at the same time with two
-   boards; with one board only where neither call writes it.
+   boards; with one board only where neither call writes it. A call needs up to some 12 KB of stack: give a thread 64 KB
+   or more.
 
    The archive holds x86-64 code and needs memcpy and memset of the C library. */
 #ifndef NETHAZEL_H
@@ -52,6 +53,33 @@
 
 #ifdef __cplusplus
 extern "C" {
+#endif
+
+#define NETHAZEL_VERSION "0.2.0"
+
+/* The layout: the number of this header's records and calls. Each call's symbol has it in its name, so that a host which was
+   compiled for other records or calls is not linked. If the linker says
+
+     undefined reference to `nethazel_open_layout_1'
+
+   and so of every call, then no archive was linked, or it is of another layout than this header: `nm libnethazel.a | grep
+   nethazel_open` shows which; a name without a number is older than 0.2.0. Take header and archive from one release, and
+   compile every source file that includes the header again. */
+#define NETHAZEL_LAYOUT 1
+#define nethazel_open nethazel_open_layout_1
+#define nethazel_enter nethazel_enter_layout_1
+#define nethazel_leave nethazel_leave_layout_1
+#define nethazel_choose nethazel_choose_layout_1
+#define nethazel_relax nethazel_relax_layout_1
+#define nethazel_options nethazel_options_layout_1
+#define nethazel_alternatives nethazel_alternatives_layout_1
+#define nethazel_example nethazel_example_layout_1
+#define nethazel_turns nethazel_turns_layout_1
+
+#ifdef __GNUC__
+#define NETHAZEL_EXTENSION __extension__ /* C89 has no bool */
+#else
+#define NETHAZEL_EXTENSION
 #endif
 
 #define NETHAZEL_BOARD 32768 /* the board's length: 4,096 bytes for each of the eight seats */
@@ -101,10 +129,28 @@ typedef struct {
 
 typedef struct {
     uint8_t number;
-    uint16_t made; /* turns made */
-    bool working;  /* whether a seat is still at work */
+    uint16_t made;                   /* turns made */
+    NETHAZEL_EXTENSION bool working; /* whether a seat is still at work */
     nethazel_desk desk;
 } nethazel_turned;
+
+/* The records are as long as the archive has them; else the compiler says which is not. */
+#if defined(__cplusplus) && __cplusplus >= 201103L
+#define NETHAZEL_BYTES(record, size) static_assert(sizeof(record) == (size), #record " has " #size " bytes in the archive")
+#elif !defined(__cplusplus) && defined(__STDC_VERSION__) && __STDC_VERSION__ >= 201112L
+#define NETHAZEL_BYTES(record, size) _Static_assert(sizeof(record) == (size), #record " has " #size " bytes in the archive")
+#else
+#define NETHAZEL_BYTES(record, size) \
+    typedef char record##_has_##size##_bytes_in_the_archive[sizeof(record) == (size) ? 1 : -1]
+#endif
+NETHAZEL_BYTES(nethazel_seat, 102);
+NETHAZEL_BYTES(nethazel_desk, 818);
+NETHAZEL_BYTES(nethazel_changed, 820);
+NETHAZEL_BYTES(nethazel_left, 8);
+NETHAZEL_BYTES(nethazel_example_at, 24);
+NETHAZEL_BYTES(nethazel_turned, 824);
+#undef NETHAZEL_BYTES
+#undef NETHAZEL_EXTENSION
 
 /* What every call is lent: the board; the sizes, one for each of 1 to 16 features, from 1 to 16 options each; and the rule
    list, at most 8,192 numbers for at most 64 rules. A rule is its arity k (1 to 6), its row count m, k different features,
@@ -134,32 +180,73 @@ nethazel_left nethazel_options(nethazel_desk desk, NETHAZEL_READ, size_t c, size
 nethazel_left nethazel_alternatives(nethazel_desk desk, NETHAZEL_READ, size_t c, size_t i);
 nethazel_example_at nethazel_example(nethazel_desk desk, NETHAZEL_READ, size_t c, size_t i, size_t a);
 nethazel_turned nethazel_turns(nethazel_desk desk, NETHAZEL_WRITTEN, uint16_t w);
+#undef NETHAZEL_CATALOGUE
+#undef NETHAZEL_WRITTEN
+#undef NETHAZEL_READ
 
-/* The refusal numbers. Checks run from the top, and the first that fails gives its number. Of the catalogue's faults (10 to
-   18) it is the one met first, reading the sizes and then the rule list from the front.
+/* The numbers of the answers. Checks run from the top, and the first that fails gives its number. Of the catalogue's
+   faults (10 to 18) it is the one met first, reading the sizes and then the rule list from the front. Open makes checks
+   1 and 10 to 18 and nothing more, turns makes 1 to 20. */
+enum nethazel_refusal {
+    NETHAZEL_DONE = 0,
+    NETHAZEL_REFUSED_BOARD_LENGTH = 1,           /* the board's length is not NETHAZEL_BOARD, 32,768 */
+    NETHAZEL_REFUSED_FEATURE_COUNT = 10,         /* no feature, or above 16 */
+    NETHAZEL_REFUSED_SIZE = 11,                  /* a size 0, or above 16 */
+    NETHAZEL_REFUSED_RULE_LIST_LENGTH = 12,      /* the rule list above 8,192 numbers */
+    NETHAZEL_REFUSED_RULE_COUNT = 13,            /* numbers remain after 64 rules */
+    NETHAZEL_REFUSED_RULE_CUT_SHORT = 14,        /* fewer remain than a rule's next part (header, features, rows) needs */
+    NETHAZEL_REFUSED_ARITY = 15,                 /* an arity 0, or above 6 */
+    NETHAZEL_REFUSED_RULE_FEATURE = 16,          /* a rule names a feature that is not in the catalogue */
+    NETHAZEL_REFUSED_FEATURE_TWICE = 17,         /* a rule names a feature twice */
+    NETHAZEL_REFUSED_ROW_OPTION = 18,            /* a row's option is not below its feature's size */
+    NETHAZEL_REFUSED_DESK_UNFIT = 20,            /* the desk doesn't fit the catalogue, or a seat's state is unknown */
+    NETHAZEL_REFUSED_SEAT_ABOVE_7 = 30,          /* seat above 7 */
+    NETHAZEL_REFUSED_SEAT_CLOSED = 31,           /* seat closed (not for enter) */
+    NETHAZEL_REFUSED_SEAT_OPEN = 32,             /* seat open (enter only) */
+    NETHAZEL_REFUSED_SEAT_AT_WORK = 33,          /* seat at work (not for enter, leave) */
+    NETHAZEL_REFUSED_FEATURE_MISSING = 34,       /* feature not in the catalogue */
+    NETHAZEL_REFUSED_OPTION_MISSING = 35,        /* option not below the size (choose, example) */
+    NETHAZEL_REFUSED_FEATURE_HAS_CHOICE = 36,    /* the feature has a choice (choose) */
+    NETHAZEL_REFUSED_OPTION_NOT_LEFT = 37,       /* option not left (choose, example) */
+    NETHAZEL_REFUSED_FEATURE_HAS_NO_CHOICE = 38  /* the feature has no choice (relax, alternatives) */
+};
 
-    1  the board's length is not 32,768
-   10  no feature, or above 16
-   11  a size 0, or above 16
-   12  the rule list above 8,192 numbers
-   13  numbers remain after 64 rules
-   14  fewer numbers remain than the next part of a rule needs (header of two, features, rows)
-   15  an arity 0, or above 6
-   16  a rule names a feature that is not in the catalogue
-   17  a rule names a feature twice
-   18  a row's option is not below its feature's size
-   20  the desk doesn't fit the catalogue; also: a seat's state number is none of the three
-   30  seat above 7
-   31  seat closed (not for enter)
-   32  seat open (enter only)
-   33  seat at work (not for enter, leave)
-   34  feature not in the catalogue
-   35  option not below the size (choose, example)
-   36  the feature has a choice (choose)
-   37  option not left (choose, example)
-   38  the feature has no choice (relax, alternatives)
-
-   Open makes checks 1 and 10 to 18 and nothing more, turns makes 1 to 20. */
+/* What a number means, in words for a person, never NULL. It stands here since the archive holds no text. */
+#if defined(__cplusplus) || (defined(__STDC_VERSION__) && __STDC_VERSION__ >= 199901L)
+#define NETHAZEL_INLINE inline
+#elif defined(__GNUC__)
+#define NETHAZEL_INLINE __inline__
+#else
+#define NETHAZEL_INLINE
+#endif
+static NETHAZEL_INLINE const char *nethazel_words(unsigned number)
+{
+    switch (number) {
+    case NETHAZEL_DONE: return "done";
+    case NETHAZEL_REFUSED_BOARD_LENGTH: return "the board's length is not 32,768 bytes";
+    case NETHAZEL_REFUSED_FEATURE_COUNT: return "the catalogue has no feature, or more than 16";
+    case NETHAZEL_REFUSED_SIZE: return "a feature's size is not from 1 to 16";
+    case NETHAZEL_REFUSED_RULE_LIST_LENGTH: return "the rule list has more than 8,192 numbers";
+    case NETHAZEL_REFUSED_RULE_COUNT: return "the rule list goes on after 64 rules";
+    case NETHAZEL_REFUSED_RULE_CUT_SHORT: return "the rule list ends before its last rule is complete";
+    case NETHAZEL_REFUSED_ARITY: return "a rule's arity is not from 1 to 6";
+    case NETHAZEL_REFUSED_RULE_FEATURE: return "a rule names a feature that is not in the catalogue";
+    case NETHAZEL_REFUSED_FEATURE_TWICE: return "a rule names a feature twice";
+    case NETHAZEL_REFUSED_ROW_OPTION: return "a row of a rule has an option that its feature doesn't have";
+    case NETHAZEL_REFUSED_DESK_UNFIT: return "the desk doesn't fit the catalogue";
+    case NETHAZEL_REFUSED_SEAT_ABOVE_7: return "the seats are numbered 0 to 7, and the seat is above 7";
+    case NETHAZEL_REFUSED_SEAT_CLOSED: return "the seat is closed";
+    case NETHAZEL_REFUSED_SEAT_OPEN: return "the seat is open already";
+    case NETHAZEL_REFUSED_SEAT_AT_WORK: return "the seat is still at work";
+    case NETHAZEL_REFUSED_FEATURE_MISSING: return "the feature is not in the catalogue";
+    case NETHAZEL_REFUSED_OPTION_MISSING: return "the feature doesn't have the option";
+    case NETHAZEL_REFUSED_FEATURE_HAS_CHOICE: return "the feature has a choice already";
+    case NETHAZEL_REFUSED_OPTION_NOT_LEFT: return "the option is not left: no build that the choices allow has it";
+    case NETHAZEL_REFUSED_FEATURE_HAS_NO_CHOICE: return "the feature has no choice";
+    default: return "no refusal has this number";
+    }
+}
+#undef NETHAZEL_INLINE
 
 #ifdef __cplusplus
 }

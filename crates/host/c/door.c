@@ -1,12 +1,8 @@
-/* What the door itself adds, on the trolley: the layout of the records, a record handed back as it was, a state number
-   without a meaning, where an example stands. Says which expectation failed, else nothing. */
+/* What the door itself adds, on the trolley: a record handed back as it was, a state number without a meaning, where an
+   example stands. Says which expectation failed, else nothing. */
 #include <stdio.h>
 #include <string.h>
-#include "../nethazel.h"
-
-_Static_assert(sizeof(nethazel_seat) == 102 && sizeof(nethazel_desk) == 818, "the desk's layout");
-_Static_assert(sizeof(nethazel_changed) == 820 && sizeof(nethazel_turned) == 824, "the answers' layout");
-_Static_assert(sizeof(nethazel_left) == 8 && sizeof(nethazel_example_at) == 24, "the readings' layout");
+#include "nethazel.h"
 
 static uint8_t board[NETHAZEL_BOARD];
 static const uint8_t sizes[3] = {3, 3, 2};

@@ -3,7 +3,7 @@
    it prints the same of what could replace the choice. */
 #include <stdio.h>
 #include <stdlib.h>
-#include "../nethazel.h"
+#include "nethazel.h"
 
 static uint8_t board[NETHAZEL_BOARD];
 static const uint8_t sizes[3] = {3, 3, 2};
@@ -12,8 +12,8 @@ static const uint16_t rules[24] = {2, 4, 0, 1, 0, 1, 1, 0, 1, 2, 2, 1, 2, 4, 1, 
 
 static void done(const char *call, unsigned number)
 {
-    if (number == 0) return;
-    fprintf(stderr, "%s was refused with %u\n", call, number);
+    if (number == NETHAZEL_DONE) return;
+    fprintf(stderr, "%s was refused with %u: %s\n", call, number, nethazel_words(number));
     exit(1);
 }
 

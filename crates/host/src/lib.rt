@@ -1,5 +1,7 @@
 // The door for C and Rust hosts: each of the desk's calls, over plain records. A call converts the host's desk, calls
-// the desk and converts its answer back; a refused call hands the host's own record back, exactly as it was.
+// the desk and converts its answer back; a refused call hands the host's own record back, exactly as it was. Each name ends
+// with the number of the door's layout, which goes up by one whenever a record or a call changes: a host that was made for
+// another layout finds no such name and is not linked.
 mod answers;
 mod convert;
 mod records;
@@ -25,7 +27,11 @@ ghost use Rattle.host.specs.Door.{inside, throughDoor, openedDoor, hostC
 ghost use Rattle.host.specs.Door.{hostLeftAnswer, hostTurnedOutcome, exampleStands};
 
 #[no_mangle]
-pub extern "C" fn nethazel_open(board: &mut [u8], sizes: &[u8], rules: &[u16]) -> HostChanged
+pub extern "C" fn nethazel_open_layout_1(
+    board: &mut [u8],
+    sizes: &[u8],
+    rules: &[u16],
+) -> HostChanged
     ensures { λ r. ⌜ hostChangedOutcome r (now (board .exit))
         ≡ openedDoor (catalogueOf (now (sizes .entry)) (now (rules .entry))) (now (board .entry)) ⌝ }
 {
@@ -38,7 +44,7 @@ pub extern "C" fn nethazel_open(board: &mut [u8], sizes: &[u8], rules: &[u16]) -
 }
 
 #[no_mangle]
-pub extern "C" fn nethazel_enter(
+pub extern "C" fn nethazel_enter_layout_1(
     given: HostDesk,
     board: &mut [u8],
     sizes: &[u8],
@@ -54,7 +60,7 @@ pub extern "C" fn nethazel_enter(
 }
 
 #[no_mangle]
-pub extern "C" fn nethazel_leave(
+pub extern "C" fn nethazel_leave_layout_1(
     given: HostDesk,
     board: &mut [u8],
     sizes: &[u8],
@@ -70,7 +76,7 @@ pub extern "C" fn nethazel_leave(
 }
 
 #[no_mangle]
-pub extern "C" fn nethazel_choose(
+pub extern "C" fn nethazel_choose_layout_1(
     given: HostDesk,
     board: &mut [u8],
     sizes: &[u8],
@@ -88,7 +94,7 @@ pub extern "C" fn nethazel_choose(
 }
 
 #[no_mangle]
-pub extern "C" fn nethazel_relax(
+pub extern "C" fn nethazel_relax_layout_1(
     given: HostDesk,
     board: &mut [u8],
     sizes: &[u8],
@@ -105,7 +111,7 @@ pub extern "C" fn nethazel_relax(
 }
 
 #[no_mangle]
-pub extern "C" fn nethazel_options(
+pub extern "C" fn nethazel_options_layout_1(
     given: HostDesk,
     board: &[u8],
     sizes: &[u8],
@@ -121,7 +127,7 @@ pub extern "C" fn nethazel_options(
 }
 
 #[no_mangle]
-pub extern "C" fn nethazel_alternatives(
+pub extern "C" fn nethazel_alternatives_layout_1(
     given: HostDesk,
     board: &[u8],
     sizes: &[u8],
@@ -138,7 +144,7 @@ pub extern "C" fn nethazel_alternatives(
 
 // Both of the desk's calls for an example in one: the number, and where the bytes stand that the desk hands out.
 #[no_mangle]
-pub extern "C" fn nethazel_example(
+pub extern "C" fn nethazel_example_layout_1(
     given: HostDesk,
     board: &[u8],
     sizes: &[u8],
@@ -170,7 +176,7 @@ pub extern "C" fn nethazel_example(
 }
 
 #[no_mangle]
-pub extern "C" fn nethazel_turns(
+pub extern "C" fn nethazel_turns_layout_1(
     given: HostDesk,
     board: &mut [u8],
     sizes: &[u8],

@@ -200,16 +200,20 @@ pub struct Calls {
 
 pub fn calls(family: &Family) -> Calls {
     Calls {
-        none: call_time(family, 300, |desk| drop(desk.turns(0))),
-        one: call_time(family, 300, |desk| drop(desk.turns(1))),
-        many: call_time(family, 20, |desk| drop(desk.turns(4096))),
-        options: call_time(family, 300, |desk| drop(desk.options(0, 0))),
-        alternatives: call_time(family, 300, |desk| drop(desk.alternatives(0, 0))),
+        none: call_time(family, 300, |desk| desk.turns(0)),
+        one: call_time(family, 300, |desk| desk.turns(1)),
+        many: call_time(family, 20, |desk| desk.turns(4096)),
+        options: call_time(family, 300, |desk| desk.options(0, 0)),
+        alternatives: call_time(family, 300, |desk| desk.alternatives(0, 0)),
         enter: call_time(family, 300, |desk| assert_eq!(desk.enter(0), 32)),
     }
 }
 
-fn call_time(family: &Family, calls: u32, call: impl Fn(&mut door::Desk)) -> Duration {
+fn call_time<Answer>(
+    family: &Family,
+    calls: u32,
+    call: impl Fn(&mut door::Desk) -> Answer,
+) -> Duration {
     let round = || {
         let mut desk = busy_desk(family, 1);
         let start = cpu_time();
