@@ -24,8 +24,8 @@ use std::iter::FusedIterator;
 /// Where there is no option it is shown as `-`.
 #[derive(Clone, Copy, Debug, PartialEq, Eq, Hash)]
 pub struct OptionsLeft {
-    pub(crate) mask: u16,
-    pub(crate) count: u32,
+    mask: u16,
+    count: usize,
 }
 
 impl OptionsLeft {
@@ -33,17 +33,33 @@ impl OptionsLeft {
         Refusal::done(left.number)?;
         Ok(OptionsLeft {
             mask: left.mask,
-            count: left.count,
+            count: left.count as usize, // at most 16
         })
     }
 
     /// Bit `a` is set for an option `a` among them.
+    ///
+    /// ```
+    /// # let mut desk = nethazel::Desk::open(&nethazel::Catalogue::new(&[2]))?;
+    /// # desk.enter(0)?;
+    /// # desk.turns(u16::MAX)?;
+    /// assert_eq!(desk.options(0, 0)?.mask(), 0b11);
+    /// # Ok::<(), nethazel::Refusal>(())
+    /// ```
     pub fn mask(self) -> u16 {
         self.mask
     }
 
     /// How many options they are.
-    pub fn count(self) -> u32 {
+    ///
+    /// ```
+    /// # let mut desk = nethazel::Desk::open(&nethazel::Catalogue::new(&[2]))?;
+    /// # desk.enter(0)?;
+    /// # desk.turns(u16::MAX)?;
+    /// assert_eq!(desk.options(0, 0)?.count(), 2);
+    /// # Ok::<(), nethazel::Refusal>(())
+    /// ```
+    pub fn count(self) -> usize {
         self.count
     }
 
@@ -62,6 +78,14 @@ impl OptionsLeft {
     }
 
     /// The options, rising.
+    ///
+    /// ```
+    /// # let mut desk = nethazel::Desk::open(&nethazel::Catalogue::new(&[2]))?;
+    /// # desk.enter(0)?;
+    /// # desk.turns(u16::MAX)?;
+    /// assert!(desk.options(0, 0)?.iter().eq([0, 1]));
+    /// # Ok::<(), nethazel::Refusal>(())
+    /// ```
     pub fn iter(self) -> OptionsIter {
         OptionsIter { mask: self.mask }
     }
@@ -87,6 +111,15 @@ impl fmt::Display for OptionsLeft {
 }
 
 /// The options of an [`OptionsLeft`], rising.
+///
+/// ```
+/// # let mut desk = nethazel::Desk::open(&nethazel::Catalogue::new(&[2]))?;
+/// # desk.enter(0)?;
+/// # desk.turns(u16::MAX)?;
+/// let mut options = desk.options(0, 0)?.iter();
+/// assert_eq!((options.len(), options.next()), (2, Some(0)));
+/// # Ok::<(), nethazel::Refusal>(())
+/// ```
 #[derive(Clone, Debug)]
 pub struct OptionsIter {
     mask: u16,
@@ -113,17 +146,91 @@ impl Iterator for OptionsIter {
 impl ExactSizeIterator for OptionsIter {}
 impl FusedIterator for OptionsIter {}
 
-/// What [`Desk::turns`](crate::Desk::turns) did.
+/// A build, as [`Desk::example`](crate::Desk::example) shows it: one option for each feature of the catalogue, as they stand
+/// on the board. On a desk that was put together from bytes that were made up or changed, any byte may stand there, 255 too,
+/// and is shown as it is.
 ///
 /// ```
-/// use nethazel::{Catalogue, Desk, Turns};
+/// use nethazel::{Catalogue, Desk};
 ///
-/// let mut desk = Desk::open(&Catalogue::new(&[1]))?;
+/// let mut desk = Desk::open(&Catalogue::new(&[3, 2]))?;
 /// desk.enter(0)?;
-/// assert_eq!(desk.turns(5)?, Turns { made: 1, working: false });
+/// desk.turns(u16::MAX)?;
+/// let example = desk.example(0, 1, 1)?;
+/// assert!(example.options().eq([0, 1]));
+/// assert_eq!((example.option(1), example.option(2)), (Some(1), None));
+/// assert_eq!(example.to_string(), "0 1");
+/// assert_eq!(example.bytes()[..3], [0, 1, 255]);
 /// # Ok::<(), nethazel::Refusal>(())
 /// ```
 #[derive(Clone, Copy, Debug, PartialEq, Eq, Hash)]
+pub struct Example<'desk> {
+    pub(crate) bytes: &'desk [u8; 16],
+    pub(crate) features: usize,
+}
+
+impl<'desk> Example<'desk> {
+    /// The option of a feature; `None` for one that is not in the catalogue.
+    ///
+    /// ```
+    /// # let mut desk = nethazel::Desk::open(&nethazel::Catalogue::new(&[2]))?;
+    /// # desk.enter(0)?;
+    /// # desk.turns(u16::MAX)?;
+    /// assert_eq!(desk.example(0, 0, 1)?.option(0), Some(1));
+    /// # Ok::<(), nethazel::Refusal>(())
+    /// ```
+    pub fn option(self, feature: usize) -> Option<usize> {
+        self.options().nth(feature)
+    }
+
+    /// The option of each feature, in the order of the features: as many as the catalogue has.
+    ///
+    /// ```
+    /// # let mut desk = nethazel::Desk::open(&nethazel::Catalogue::new(&[2]))?;
+    /// # desk.enter(0)?;
+    /// # desk.turns(u16::MAX)?;
+    /// assert!(desk.example(0, 0, 1)?.options().eq([1]));
+    /// # Ok::<(), nethazel::Refusal>(())
+    /// ```
+    pub fn options(self) -> impl ExactSizeIterator<Item = usize> + 'desk {
+        let bytes = self.bytes.iter().take(self.features);
+        bytes.map(|option| usize::from(*option))
+    }
+
+    /// The sixteen bytes on the board: after the catalogue's features come 255s.
+    ///
+    /// ```
+    /// # let mut desk = nethazel::Desk::open(&nethazel::Catalogue::new(&[2]))?;
+    /// # desk.enter(0)?;
+    /// # desk.turns(u16::MAX)?;
+    /// assert_eq!(desk.example(0, 0, 1)?.bytes()[..2], [1, 255]);
+    /// # Ok::<(), nethazel::Refusal>(())
+    /// ```
+    pub fn bytes(self) -> &'desk [u8; 16] {
+        self.bytes
+    }
+}
+
+impl fmt::Display for Example<'_> {
+    fn fmt(&self, f: &mut fmt::Formatter<'_>) -> fmt::Result {
+        let options: Vec<String> = self.options().map(|option| option.to_string()).collect();
+        f.write_str(&options.join(" "))
+    }
+}
+
+/// What [`Desk::turns`](crate::Desk::turns) did. Later versions may say more of it, so its fields are read by name.
+///
+/// ```
+/// use nethazel::{Catalogue, Desk};
+///
+/// let mut desk = Desk::open(&Catalogue::new(&[1]))?;
+/// desk.enter(0)?;
+/// let turns = desk.turns(5)?;
+/// assert_eq!((turns.made, turns.working), (1, false));
+/// # Ok::<(), nethazel::Refusal>(())
+/// ```
+#[derive(Clone, Copy, Debug, PartialEq, Eq, Hash)]
+#[non_exhaustive]
 pub struct Turns {
     /// How many turns were made: fewer than were asked for when no seat was at work any more.
     pub made: u16,

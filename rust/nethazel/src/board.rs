@@ -16,13 +16,33 @@ pub struct Board(Box<[u8; Board::LENGTH]>);
 
 impl Board {
     /// The board's length in bytes.
+    ///
+    /// ```
+    /// use nethazel::Board;
+    ///
+    /// assert_eq!(Board::LENGTH, 8 * Board::SHARE);
+    /// ```
     pub const LENGTH: usize = 32_768;
 
-    /// The length of one seat's share.
+    /// The length of one seat's share: 16 bytes for each of 16 options of 16 features.
+    ///
+    /// ```
+    /// assert_eq!(nethazel::Board::SHARE, 16 * 16 * 16);
+    /// ```
     pub const SHARE: usize = 4_096;
 
     pub(crate) fn new() -> Board {
-        Board(Box::new([255; Board::LENGTH]))
+        Board::holding(vec![255; Board::LENGTH]) // an array would stand on the stack first, where nothing is optimized
+    }
+
+    /// A board that holds the bytes, which are as many as a board has.
+    pub(crate) fn copied(bytes: &[u8]) -> Board {
+        Board::holding(bytes.to_vec())
+    }
+
+    fn holding(bytes: Vec<u8>) -> Board {
+        let bytes = bytes.into_boxed_slice();
+        Board(bytes.try_into().expect("a board's length"))
     }
 
     /// All bytes of the board.

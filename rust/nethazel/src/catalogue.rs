@@ -1,10 +1,13 @@
 use std::fmt;
+use std::sync::Arc;
 
 /// A catalogue in numbers: the size of each feature, and the rule list.
 ///
 /// Any numbers make a `Catalogue`; whether they are one that the desk can work with is checked when a
 /// [`Desk`](crate::Desk) is opened with it. It takes 1 to 16 features of 1 to 16 options, and 0 to 64 rules in a list of at
 /// most 8,192 numbers.
+///
+/// A clone is cheap and shares the numbers, and so do all desks that are opened with it, on any thread.
 ///
 /// The trolley: three features with 3, 3 and 2 options, and two rules.
 ///
@@ -18,7 +21,11 @@ use std::fmt;
 /// assert_eq!(trolley.rule_list()[..6], [2, 4, 0, 1, 0, 1]);
 /// ```
 #[derive(Clone, Debug, PartialEq, Eq, Hash)]
-pub struct Catalogue {
+pub struct Catalogue(Arc<Numbers>);
+
+/// What is lent to the archive.
+#[derive(Clone, Debug, PartialEq, Eq, Hash)]
+struct Numbers {
     sizes: Vec<u8>,
     rule_list: Vec<u16>,
 }
@@ -27,12 +34,16 @@ impl Catalogue {
     /// A catalogue without rules, of one feature for each size. Options of a feature are 0 to its size − 1.
     ///
     /// ```
-    /// use nethazel::{Catalogue, Desk};
+    /// use nethazel::{Catalogue, Desk, Refusal};
     ///
     /// assert!(Desk::open(&Catalogue::new(&[4, 2])).is_ok());
+    /// assert_eq!(Desk::open(&Catalogue::new(&[4, 256 + 2])), Err(Refusal::Size));
     /// ```
-    pub fn new(sizes: &[u8]) -> Catalogue {
-        Catalogue::from_numbers(sizes, &[])
+    pub fn new(sizes: &[usize]) -> Catalogue {
+        // One that a byte can't hold is refused as 255 is: it's above 16.
+        let byte = |size: &usize| u8::try_from(*size).unwrap_or(u8::MAX);
+        let sizes: Vec<u8> = sizes.iter().map(byte).collect();
+        Catalogue::from_numbers(&sizes, &[])
     }
 
     /// A catalogue of any numbers, as they come from a file or a network: the desk checks them.
@@ -45,14 +56,15 @@ impl Catalogue {
     /// assert_eq!(Desk::open(&cut_short).unwrap_err(), Refusal::RuleCutShort);
     /// ```
     pub fn from_numbers(sizes: &[u8], rule_list: &[u16]) -> Catalogue {
-        Catalogue {
+        Catalogue(Arc::new(Numbers {
             sizes: sizes.to_vec(),
             rule_list: rule_list.to_vec(),
-        }
+        }))
     }
 
     /// Writes one more rule into the rule list: a build satisfies it when its options at `features`, in this order, are
-    /// one of `rows`. That every row has an option for each feature is checked by type.
+    /// one of `rows`. That every row has an option for each feature is checked by type. A number above 65,535 is written as
+    /// 65,535, for either names no feature and no option, and the desk refuses both alike.
     ///
     /// ```
     /// use nethazel::Catalogue;
@@ -78,11 +90,14 @@ impl Catalogue {
     #[must_use]
     pub fn rule<const ARITY: usize>(
         mut self,
-        features: &[u16; ARITY],
-        rows: &[[u16; ARITY]],
+        features: &[usize; ARITY],
+        rows: &[[usize; ARITY]],
     ) -> Catalogue {
-        self.write_header(features, rows.len());
-        self.rule_list.extend(rows.iter().flatten());
+        let list = &mut Arc::make_mut(&mut self.0).rule_list;
+        write_header(list, features, rows.len());
+        for row in rows {
+            write(list, row);
+        }
         self
     }
 
@@ -93,23 +108,24 @@ impl Catalogue {
     /// [`UnevenRow`] if a row has another length than `features`: such a row can't be written into a rule list.
     ///
     /// ```
-    /// use nethazel::{Catalogue, UnevenRow};
+    /// use nethazel::Catalogue;
     ///
     /// let features = vec![0, 1];
     /// let catalogue = Catalogue::new(&[2, 2]).rule_of_rows(&features, &[vec![0, 1], vec![1, 0]])?;
     /// assert_eq!(catalogue.rule_list(), [2, 2, 0, 1, 0, 1, 1, 0]);
     ///
     /// let uneven = catalogue.rule_of_rows(&features, &[vec![0, 1], vec![1]]).unwrap_err();
-    /// assert_eq!(uneven, UnevenRow { row: 1, length: 1, arity: 2 });
+    /// assert_eq!((uneven.row, uneven.length, uneven.arity), (1, 1, 2));
     /// assert_eq!(uneven.to_string(), "row 1 has length 1, but the rule has arity 2");
-    /// # Ok::<(), UnevenRow>(())
+    /// # Ok::<(), nethazel::UnevenRow>(())
     /// ```
-    pub fn rule_of_rows<Row: AsRef<[u16]>>(
+    pub fn rule_of_rows<Row: AsRef<[usize]>>(
         mut self,
-        features: &[u16],
+        features: &[usize],
         rows: &[Row],
     ) -> Result<Catalogue, UnevenRow> {
-        self.write_header(features, rows.len());
+        let list = &mut Arc::make_mut(&mut self.0).rule_list;
+        write_header(list, features, rows.len());
         for (row, options) in rows.iter().map(Row::as_ref).enumerate() {
             if options.len() != features.len() {
                 return Err(UnevenRow {
@@ -118,36 +134,59 @@ impl Catalogue {
                     arity: features.len(),
                 });
             }
-            self.rule_list.extend(options);
+            write(list, options);
         }
         Ok(self)
     }
 
-    /// The size of each feature: how many options it has.
+    /// How many features it has.
+    ///
+    /// ```
+    /// assert_eq!(nethazel::Catalogue::new(&[3, 3, 2]).features(), 3);
+    /// ```
+    pub fn features(&self) -> usize {
+        self.0.sizes.len()
+    }
+
+    /// How many options the feature has; `None` for one that is not in the catalogue.
+    ///
+    /// ```
+    /// let catalogue = nethazel::Catalogue::new(&[3, 3, 2]);
+    /// assert_eq!((catalogue.size(2), catalogue.size(3)), (Some(2), None));
+    /// ```
+    pub fn size(&self, feature: usize) -> Option<usize> {
+        self.0.sizes.get(feature).map(|size| usize::from(*size))
+    }
+
+    /// The sizes of all features, as they are lent to the archive.
     ///
     /// ```
     /// assert_eq!(nethazel::Catalogue::new(&[3, 3, 2]).sizes(), [3, 3, 2]);
     /// ```
     pub fn sizes(&self) -> &[u8] {
-        &self.sizes
+        &self.0.sizes
     }
 
-    /// The rule list: for each rule its arity, its row count, its features, then its rows.
+    /// The rule list, as it is lent to the archive: for each rule its arity, its row count, its features, then its rows.
     ///
     /// ```
     /// assert!(nethazel::Catalogue::new(&[3, 3, 2]).rule_list().is_empty());
     /// ```
     pub fn rule_list(&self) -> &[u16] {
-        &self.rule_list
+        &self.0.rule_list
     }
+}
 
-    /// A count above 16 bits is written as the greatest number: the list is then too long, or the arity 0, and refused.
-    fn write_header(&mut self, features: &[u16], rows: usize) {
-        let number = |count: usize| u16::try_from(count).unwrap_or(u16::MAX);
-        self.rule_list
-            .extend([number(features.len()), number(rows)]);
-        self.rule_list.extend(features);
-    }
+/// Arity, row count, features. A count above 65,535 makes the list too long, or the arity is 0: refused as it is written.
+fn write_header(list: &mut Vec<u16>, features: &[usize], rows: usize) {
+    write(list, &[features.len(), rows]);
+    write(list, features);
+}
+
+/// A number above 65,535 is written as that, never cut to its lower bits.
+fn write(list: &mut Vec<u16>, numbers: &[usize]) {
+    let number = |number: &usize| u16::try_from(*number).unwrap_or(u16::MAX);
+    list.extend(numbers.iter().map(number));
 }
 
 /// A row that has another length than its rule's arity.
@@ -159,6 +198,7 @@ impl Catalogue {
 /// assert_eq!((uneven.row, uneven.length, uneven.arity), (0, 2, 1));
 /// ```
 #[derive(Clone, Copy, Debug, PartialEq, Eq)]
+#[non_exhaustive]
 pub struct UnevenRow {
     /// Which row, counted from 0.
     pub row: usize,

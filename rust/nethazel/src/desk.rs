@@ -1,11 +1,12 @@
+use crate::bytes;
 use crate::ffi::{self, Changed, DeskRecord};
-use crate::{Board, Catalogue, OptionsLeft, Refusal, Seat, Turns};
+use crate::{Board, Catalogue, Example, FromBytesError, OptionsLeft, Refusal, Seat, Turns};
 
 /// A desk: eight seats numbered 0 to 7, one for each clinic, over one catalogue.
 ///
-/// A `Desk` is a value. It owns its board and its catalogue, so both are the same from call to call, which is what the
-/// proofs of the desk ask for; a clone is another desk that shares nothing with the first, and may go to another thread.
-/// A refused call leaves it as it was.
+/// A `Desk` is a value. It owns its board and keeps its catalogue, so both are the same from call to call, which is what the
+/// proofs of the desk ask for. Desks share the numbers of a catalogue, which nobody writes, and nothing else: a clone is
+/// another desk, and may go to another thread. A refused call leaves a desk as it was.
 ///
 /// A seat's states, with the calls on the arrows:
 ///
@@ -27,7 +28,15 @@ pub struct Desk {
 }
 
 impl Desk {
-    /// A desk for the catalogue: all seats closed, the next turn begins at seat 0. The desk keeps a copy of the catalogue.
+    /// How many bytes [`to_bytes`](Desk::to_bytes) gives.
+    ///
+    /// ```
+    /// assert_eq!(nethazel::Desk::BYTES, 20 + 8 * 101 + 1 + 32_768);
+    /// ```
+    pub const BYTES: usize = bytes::LENGTH;
+
+    /// A desk for the catalogue: all seats closed, the next turn begins at seat 0. The desk keeps a clone of the catalogue,
+    /// which shares its numbers.
     ///
     /// # Errors
     ///
@@ -40,6 +49,11 @@ impl Desk {
     /// assert_eq!(Desk::open(&Catalogue::new(&[])), Err(Refusal::FeatureCount));
     /// let twice = Catalogue::new(&[3, 3, 2]).rule(&[1, 1], &[[0, 0]]);
     /// assert_eq!(Desk::open(&twice), Err(Refusal::FeatureTwice));
+    ///
+    /// let catalogue = Catalogue::new(&[3, 3, 2]);
+    /// let desk = Desk::open(&catalogue)?;
+    /// assert_eq!(desk.catalogue().sizes().as_ptr(), catalogue.sizes().as_ptr());
+    /// # Ok::<(), Refusal>(())
     /// ```
     pub fn open(catalogue: &Catalogue) -> Result<Desk, Refusal> {
         let mut board = Board::new();
@@ -219,7 +233,7 @@ impl Desk {
     }
 
     /// The example for an option that is left, in a ready seat: the first build in dictionary order with the option at the
-    /// feature, as it stands on the board. After the catalogue's features come 255s.
+    /// feature, as it stands on the board.
     ///
     /// # Errors
     ///
@@ -231,9 +245,7 @@ impl Desk {
     /// # let mut desk = Desk::open(&Catalogue::new(&[3, 3, 2]))?;
     /// # desk.enter(3)?;
     /// # desk.turns(u16::MAX)?;
-    /// let example = desk.example(3, 1, 2)?;
-    /// assert_eq!(example[..3], [0, 2, 0]);
-    /// assert_eq!(example[3..], [255; 13]);
+    /// assert!(desk.example(3, 1, 2)?.options().eq([0, 2, 0]));
     /// # Ok::<(), Refusal>(())
     /// ```
     pub fn example(
@@ -241,7 +253,7 @@ impl Desk {
         seat: usize,
         feature: usize,
         option: usize,
-    ) -> Result<&[u8; 16], Refusal> {
+    ) -> Result<Example<'_>, Refusal> {
         let at = ffi::example(
             self.record,
             self.board.bytes(),
@@ -252,7 +264,10 @@ impl Desk {
         );
         Refusal::done(at.number)?;
         let bytes = &self.board.bytes()[at.from..][..at.length];
-        Ok(bytes.try_into().expect("an example has sixteen bytes"))
+        Ok(Example {
+            bytes: bytes.try_into().expect("an example has sixteen bytes"),
+            features: self.catalogue.features(),
+        })
     }
 
     /// Makes `turns` turns, or fewer when no seat is at work. A turn gives one waiting seat one step of its search, around
@@ -304,16 +319,45 @@ impl Desk {
             .ok_or(Refusal::SeatAbove7)
     }
 
+    /// The seats at work, rising: those that wait for turns.
+    ///
+    /// ```
+    /// # let mut desk = nethazel::Desk::open(&nethazel::Catalogue::new(&[3, 3, 2]))?;
+    /// desk.enter(6)?;
+    /// desk.enter(1)?;
+    /// assert!(desk.at_work().eq([1, 6]));
+    /// # Ok::<(), nethazel::Refusal>(())
+    /// ```
+    pub fn at_work(&self) -> impl Iterator<Item = usize> + '_ {
+        let seats = self.record.seats.iter().map(Seat).enumerate();
+        let waiting = seats.filter(|(_, seat)| seat.is_at_work());
+        waiting.map(|(number, _)| number)
+    }
+
+    /// Whether a seat is at work. A desk on which none is needs no turns until the next enter, choose or relax, so a host of
+    /// many desks passes it over.
+    ///
+    /// ```
+    /// # let mut desk = nethazel::Desk::open(&nethazel::Catalogue::new(&[3, 3, 2]))?;
+    /// assert!(!desk.is_working());
+    /// desk.enter(3)?;
+    /// assert!(desk.is_working());
+    /// # Ok::<(), nethazel::Refusal>(())
+    /// ```
+    pub fn is_working(&self) -> bool {
+        self.at_work().next().is_some()
+    }
+
     /// The seat where the next turn begins to look for one at work.
     ///
     /// ```
     /// # let mut desk = nethazel::Desk::open(&nethazel::Catalogue::new(&[3, 3, 2]))?;
     /// desk.enter(3)?;
     /// desk.turns(1)?;
-    /// assert_eq!(desk.next(), 4);
+    /// assert_eq!(desk.next_seat(), 4);
     /// # Ok::<(), nethazel::Refusal>(())
     /// ```
-    pub fn next(&self) -> usize {
+    pub fn next_seat(&self) -> usize {
         usize::from(self.record.next)
     }
 
@@ -328,7 +372,7 @@ impl Desk {
         &self.board
     }
 
-    /// The catalogue that the desk was opened with.
+    /// The catalogue that the desk was opened or put together with.
     ///
     /// ```
     /// # let desk = nethazel::Desk::open(&nethazel::Catalogue::new(&[3, 3, 2]))?;
@@ -337,6 +381,85 @@ impl Desk {
     /// ```
     pub fn catalogue(&self) -> &Catalogue {
         &self.catalogue
+    }
+
+    /// The desk as bytes, to be kept, or moved to another machine and there [put together](Desk::from_bytes) with the same
+    /// catalogue; also in the middle of a search, which then goes on where it stood.
+    ///
+    /// The form is that of the layout whose number it has. Numbers of more than one byte are little-endian.
+    ///
+    /// ```text
+    ///  bytes
+    ///      8   the mark of a desk: the letters nethazel
+    ///      4   the layout, nethazel::LAYOUT
+    ///      8   the catalogue's fingerprint
+    ///  8×101   the seats from 0 on, each:
+    ///            1   its state: 0 closed, 1 ready, 2 at work
+    ///            4   its place: feature, option, depth, next; 0 if it is not at work
+    ///           16   its choices; 255 for none
+    ///           32   its masks of options left, two bytes each
+    ///           16   its trial build; 255 for none
+    ///           32   its masks of alternatives, two bytes each
+    ///      1   the seat where the next turn begins
+    /// 32,768   the board
+    /// ```
+    ///
+    /// The catalogue is not among them, only its fingerprint: FNV-1a of 64 bits over how many sizes there are (8 bytes), the
+    /// sizes (1 byte each), how many numbers the rule list has (8 bytes), and those numbers (2 bytes each). So a desk is not
+    /// put together with another catalogue by mistake. A fingerprint is no signature: who means to can make another catalogue,
+    /// or another desk, with the same one.
+    ///
+    /// ```
+    /// use nethazel::{Catalogue, Desk};
+    ///
+    /// let desk = Desk::open(&Catalogue::new(&[3, 3, 2]))?;
+    /// let bytes = desk.to_bytes();
+    /// assert_eq!(bytes.len(), Desk::BYTES);
+    /// assert_eq!(bytes[..8], *b"nethazel");
+    /// assert_eq!(bytes[8..12], nethazel::LAYOUT.to_le_bytes());
+    /// # Ok::<(), nethazel::Refusal>(())
+    /// ```
+    pub fn to_bytes(&self) -> Vec<u8> {
+        bytes::write(&self.record, &self.board, &self.catalogue)
+    }
+
+    /// The desk that [`to_bytes`](Desk::to_bytes) took apart, with the catalogue that it had: the fingerprints are compared. The
+    /// archive checks the catalogue, and that the record fits it.
+    ///
+    /// What the board holds is not checked, and a fingerprint is no signature. With bytes that were made up or changed every
+    /// call still ends, is safe and answers by the numbers that are there; but that such a desk shows exactly what fits, and is
+    /// ready in time (promises 2 and 3 of the README), is not claimed. A host that takes bytes from others has to know that
+    /// they are theirs, by a signature say.
+    ///
+    /// The record is kept as the archive hands it back: where bytes of it that have no meaning in a seat's state were
+    /// changed, they are as a desk has them again.
+    ///
+    /// # Errors
+    ///
+    /// The first of these: no mark of a desk, another layout, another length, another catalogue, or what the archive refuses:
+    /// the catalogue's first fault, 10 to 18, or 20 where the record doesn't fit the catalogue.
+    ///
+    /// ```
+    /// use nethazel::{Catalogue, Desk};
+    ///
+    /// let catalogue = Catalogue::new(&[3, 3, 2]);
+    /// let mut here = Desk::open(&catalogue)?;
+    /// here.enter(3)?;
+    /// here.turns(7)?; // in the middle of its search
+    /// let mut there = Desk::from_bytes(&catalogue, &here.to_bytes())?;
+    /// there.turns(u16::MAX)?;
+    /// assert_eq!(there.options(3, 0)?.count(), 3);
+    /// # Ok::<(), Box<dyn std::error::Error>>(())
+    /// ```
+    pub fn from_bytes(catalogue: &Catalogue, bytes: &[u8]) -> Result<Desk, FromBytesError> {
+        let (record, mut board) = bytes::read(bytes, catalogue)?;
+        let together = ffi::put_together(record, board.bytes_mut(), catalogue);
+        Refusal::done(together.number)?;
+        Ok(Desk {
+            record: together.desk,
+            board,
+            catalogue: catalogue.clone(),
+        })
     }
 
     fn changed(&mut self, changed: Changed) -> Result<(), Refusal> {

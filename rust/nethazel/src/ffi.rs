@@ -3,6 +3,8 @@
 
 use crate::Catalogue;
 
+include!("layout.rs"); // the macro and the constant of the layout's number
+
 #[derive(Clone, Copy, Debug, PartialEq, Eq)]
 #[repr(C)]
 pub struct SeatRecord {
@@ -52,7 +54,9 @@ pub struct Turned {
     pub desk: DeskRecord,
 }
 
+// Each call has the layout's number in its symbol's name: an archive of another layout lacks them all and is not linked.
 extern "C" {
+    #[link_name = concat!("nethazel_open_layout_", layout!())]
     fn nethazel_open(
         board: *mut u8,
         board_length: usize,
@@ -61,6 +65,7 @@ extern "C" {
         rules: *const u16,
         rules_length: usize,
     ) -> Changed;
+    #[link_name = concat!("nethazel_enter_layout_", layout!())]
     fn nethazel_enter(
         desk: DeskRecord,
         board: *mut u8,
@@ -71,6 +76,7 @@ extern "C" {
         rules_length: usize,
         seat: usize,
     ) -> Changed;
+    #[link_name = concat!("nethazel_leave_layout_", layout!())]
     fn nethazel_leave(
         desk: DeskRecord,
         board: *mut u8,
@@ -81,6 +87,7 @@ extern "C" {
         rules_length: usize,
         seat: usize,
     ) -> Changed;
+    #[link_name = concat!("nethazel_choose_layout_", layout!())]
     fn nethazel_choose(
         desk: DeskRecord,
         board: *mut u8,
@@ -93,6 +100,7 @@ extern "C" {
         feature: usize,
         option: usize,
     ) -> Changed;
+    #[link_name = concat!("nethazel_relax_layout_", layout!())]
     fn nethazel_relax(
         desk: DeskRecord,
         board: *mut u8,
@@ -104,6 +112,7 @@ extern "C" {
         seat: usize,
         feature: usize,
     ) -> Changed;
+    #[link_name = concat!("nethazel_options_layout_", layout!())]
     fn nethazel_options(
         desk: DeskRecord,
         board: *const u8,
@@ -115,6 +124,7 @@ extern "C" {
         seat: usize,
         feature: usize,
     ) -> Left;
+    #[link_name = concat!("nethazel_alternatives_layout_", layout!())]
     fn nethazel_alternatives(
         desk: DeskRecord,
         board: *const u8,
@@ -126,6 +136,7 @@ extern "C" {
         seat: usize,
         feature: usize,
     ) -> Left;
+    #[link_name = concat!("nethazel_example_layout_", layout!())]
     fn nethazel_example(
         desk: DeskRecord,
         board: *const u8,
@@ -138,6 +149,7 @@ extern "C" {
         feature: usize,
         option: usize,
     ) -> ExampleAt;
+    #[link_name = concat!("nethazel_turns_layout_", layout!())]
     fn nethazel_turns(
         desk: DeskRecord,
         board: *mut u8,
@@ -239,6 +251,15 @@ pub fn example(
 
 pub fn turns(desk: DeskRecord, board: &mut [u8], catalogue: &Catalogue, turns: u16) -> Turned {
     call!(nethazel_turns([desk] board.as_mut_ptr(), catalogue, [turns]))
+}
+
+/// A desk that is put together: no turn is made, so the board stays, and where nothing is refused the record comes back tidy.
+pub fn put_together(desk: DeskRecord, board: &mut [u8], catalogue: &Catalogue) -> Changed {
+    let turned = turns(desk, board, catalogue, 0);
+    Changed {
+        number: turned.number,
+        desk: turned.desk,
+    }
 }
 
 #[cfg(test)]

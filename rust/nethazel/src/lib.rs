@@ -21,7 +21,7 @@
 //!     desk.choose(3, 2, 0)?;
 //!     while desk.turns(u16::MAX)?.working {}
 //!     assert_eq!(desk.options(3, 1)?.to_string(), "0,2"); // options 0 and 2 of feature 1
-//!     assert_eq!(desk.example(3, 1, 2)?[..3], [1, 2, 0]); // a build with option 2 of feature 1
+//!     assert_eq!(desk.example(3, 1, 2)?.to_string(), "1 2 0"); // a build with option 2 of feature 1
 //!     assert_eq!(desk.alternatives(3, 2)?.to_string(), "0,1"); // option 1 of feature 2 could replace the choice
 //!
 //!     let refusal = desk.choose(3, 1, 1).unwrap_err();
@@ -36,16 +36,26 @@
 //!
 //! What is proved and what is assumed stands in the repository's README. This crate itself is not proved, but tested: it
 //! hands numbers over and back. It adds by type what the proofs ask of a run: a desk, its board and its catalogue stay
-//! together from opening on.
+//! together from opening on. A desk is moved as [bytes](Desk::to_bytes).
+//!
+//! Seats, features, options and how many they are, are `usize` throughout. Where the archive's own numbers are shown (a
+//! catalogue's lists, the arrays of a seat's record, the board), they have the archive's types.
+//!
+//! What will grow is marked so: refusals, states, errors, and the fields of [`Place`] and [`Turns`]. A `match` on them needs
+//! an arm for the rest, and a pattern of fields ends with `..`.
+//!
+//! The archive is x86-64 code for Linux. On another processor or system this crate can be checked and documented, and what
+//! would link it fails with words; so does a build with an archive whose records have another [layout](LAYOUT).
 //!
 //! The search of a job is exponential in the worst case, and takes many turns on a large catalogue. How the features are
 //! numbered matters much: number those of many rules first.
 
-#![deny(missing_docs)]
-#![deny(unsafe_op_in_unsafe_fn)]
+#![warn(missing_docs)]
+#![warn(unsafe_op_in_unsafe_fn)]
 
 mod answers;
 mod board;
+mod bytes;
 mod catalogue;
 mod desk;
 #[allow(missing_docs)]
@@ -53,9 +63,23 @@ mod ffi;
 mod refusal;
 mod seat;
 
-pub use answers::{OptionsIter, OptionsLeft, Turns};
+pub use answers::{Example, OptionsIter, OptionsLeft, Turns};
 pub use board::Board;
+pub use bytes::FromBytesError;
 pub use catalogue::{Catalogue, UnevenRow};
 pub use desk::Desk;
+pub use ffi::LAYOUT;
 pub use refusal::Refusal;
 pub use seat::{Place, Seat, State};
+
+/// This crate's version, which the C header and `./nethazel --version` have too.
+///
+/// ```
+/// println!("nethazel {}, layout {}", nethazel::VERSION, nethazel::LAYOUT);
+/// ```
+pub const VERSION: &str = env!("CARGO_PKG_VERSION");
+
+/// The examples of the package's README are tested as those of the documentation are.
+#[cfg(doctest)]
+#[doc = include_str!("../README.md")]
+struct Readme;

@@ -1,7 +1,7 @@
 use std::error::Error;
 use std::fmt;
 
-/// Why a call was refused: one of the paper's twenty refusal numbers.
+/// Why a call was refused: one of the paper's refusal numbers.
 ///
 /// A refused call changes nothing. Checks run from the top of this list, and the first that fails is the refusal; of a
 /// catalogue's faults (10 to 18) it is the one met first, reading the sizes and then the rule list from the front.
@@ -14,7 +14,10 @@ use std::fmt;
 /// assert_eq!(refusal.number(), 11);
 /// assert_eq!(refusal.to_string(), "a feature's size is not from 1 to 16 (refusal 11)");
 /// ```
+///
+/// Later versions may have more of them, so a `match` on a refusal has an arm for the rest.
 #[derive(Clone, Copy, Debug, PartialEq, Eq, PartialOrd, Ord, Hash)]
+#[non_exhaustive]
 #[repr(u8)]
 pub enum Refusal {
     /// The board's length is not 32,768. A [`Desk`](crate::Desk) owns its board, so no call of it meets this one.
@@ -37,8 +40,8 @@ pub enum Refusal {
     FeatureTwice = 17,
     /// A row's option is not below its feature's size.
     RowOption = 18,
-    /// The desk doesn't fit the catalogue. A [`Desk`](crate::Desk) keeps the catalogue it was opened with, so no call of
-    /// it meets this one.
+    /// The desk doesn't fit the catalogue. A [`Desk`](crate::Desk) keeps the catalogue it was opened with, so only
+    /// [`Desk::from_bytes`](crate::Desk::from_bytes) meets this one.
     DeskUnfit = 20,
     /// The seat is above 7.
     SeatAbove7 = 30,
@@ -68,7 +71,7 @@ impl Refusal {
     ///
     /// assert!(Refusal::ALL.windows(2).all(|two| two[0].number() < two[1].number()));
     /// ```
-    pub const ALL: [Refusal; 20] = [
+    pub const ALL: &'static [Refusal] = &[
         Refusal::BoardLength,
         Refusal::FeatureCount,
         Refusal::Size,

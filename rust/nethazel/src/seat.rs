@@ -1,4 +1,5 @@
 use crate::ffi::SeatRecord;
+use std::fmt;
 
 /// One clinic's record, to be looked at: [`Desk::seat`](crate::Desk::seat) gives it.
 ///
@@ -13,11 +14,40 @@ use crate::ffi::SeatRecord;
 /// assert_eq!(desk.seat(5)?.state(), State::Ready);
 /// # Ok::<(), nethazel::Refusal>(())
 /// ```
-#[derive(Clone, Copy, Debug, PartialEq, Eq)]
+///
+/// Its `Debug` shows what its methods give, by their names.
+#[derive(Clone, Copy, PartialEq, Eq)]
 pub struct Seat<'desk>(pub(crate) &'desk SeatRecord);
 
-/// What a seat is doing.
+impl fmt::Debug for Seat<'_> {
+    fn fmt(&self, f: &mut fmt::Formatter<'_>) -> fmt::Result {
+        f.debug_struct("Seat")
+            .field("state", &self.state())
+            .field("choices", self.choices())
+            .field("masks", self.masks())
+            .field("alternatives", self.alternatives())
+            .field("trial", self.trial())
+            .finish()
+    }
+}
+
+/// What a seat is doing. Later versions may have more states, so a `match` has an arm for the rest.
+///
+/// ```
+/// use nethazel::{Catalogue, Desk, State};
+///
+/// let desk = Desk::open(&Catalogue::new(&[3, 2]))?;
+/// let shown = match desk.seat(0)?.state() {
+///     State::Closed => "free",
+///     State::Ready => "ready",
+///     State::AtWork(_) => "at work",
+///     _ => "taken",
+/// };
+/// assert_eq!(shown, "free");
+/// # Ok::<(), nethazel::Refusal>(())
+/// ```
 #[derive(Clone, Copy, Debug, PartialEq, Eq)]
+#[non_exhaustive]
 pub enum State {
     /// Nobody has entered it.
     Closed,
@@ -27,29 +57,35 @@ pub enum State {
     AtWork(Place),
 }
 
-/// Where the search of a seat at work stands: it looks for a build with `option` at `feature`.
+/// Where the search of a seat at work stands: it looks for a build with `option` at `feature`. Later versions may say more
+/// of it, so its fields are read by name, and a pattern ends with `..`.
 ///
 /// ```
-/// use nethazel::{Catalogue, Desk, Place, State};
+/// use nethazel::{Catalogue, Desk, State};
 ///
 /// let mut desk = Desk::open(&Catalogue::new(&[3, 2]))?;
 /// desk.enter(0)?;
-/// let start = Place { feature: 0, option: 0, depth: 0, next: 0 };
-/// assert_eq!(desk.seat(0)?.state(), State::AtWork(start));
 /// desk.turns(1)?;
-/// assert_eq!(desk.seat(0)?.state(), State::AtWork(Place { depth: 1, ..start }));
+/// match desk.seat(0)?.state() {
+///     State::AtWork(place) => {
+///         assert_eq!((place.feature, place.option), (0, 0));
+///         assert_eq!((place.depth, place.next), (1, 0)); // an option is placed at feature 0
+///     }
+///     _ => unreachable!("one turn is one step, and the job takes more"),
+/// }
 /// # Ok::<(), nethazel::Refusal>(())
 /// ```
 #[derive(Clone, Copy, Debug, PartialEq, Eq)]
+#[non_exhaustive]
 pub struct Place {
     /// The pair's feature.
-    pub feature: u8,
+    pub feature: usize,
     /// The pair's option.
-    pub option: u8,
+    pub option: usize,
     /// Options are placed at the features before this one.
-    pub depth: u8,
+    pub depth: usize,
     /// The option to be tried next at `depth`.
-    pub next: u8,
+    pub next: usize,
 }
 
 impl<'desk> Seat<'desk> {
@@ -73,12 +109,50 @@ impl<'desk> Seat<'desk> {
             0 => State::Closed,
             1 => State::Ready,
             _ => State::AtWork(Place {
-                feature,
-                option,
-                depth,
-                next,
+                feature: feature.into(),
+                option: option.into(),
+                depth: depth.into(),
+                next: next.into(),
             }),
         }
+    }
+
+    /// Whether nobody has entered it.
+    ///
+    /// ```
+    /// # let desk = nethazel::Desk::open(&nethazel::Catalogue::new(&[1]))?;
+    /// assert!(desk.seat(0)?.is_closed());
+    /// # Ok::<(), nethazel::Refusal>(())
+    /// ```
+    pub fn is_closed(self) -> bool {
+        self.state() == State::Closed
+    }
+
+    /// Whether its job is done, so that options, alternatives and examples can be read.
+    ///
+    /// ```
+    /// # let mut desk = nethazel::Desk::open(&nethazel::Catalogue::new(&[1]))?;
+    /// desk.enter(0)?;
+    /// while !desk.seat(0)?.is_ready() {
+    ///     desk.turns(1000)?;
+    /// }
+    /// assert_eq!(desk.options(0, 0)?.count(), 1);
+    /// # Ok::<(), nethazel::Refusal>(())
+    /// ```
+    pub fn is_ready(self) -> bool {
+        self.state() == State::Ready
+    }
+
+    /// Whether it has a job and waits for turns.
+    ///
+    /// ```
+    /// # let mut desk = nethazel::Desk::open(&nethazel::Catalogue::new(&[1]))?;
+    /// desk.enter(0)?;
+    /// assert!(desk.seat(0)?.is_at_work());
+    /// # Ok::<(), nethazel::Refusal>(())
+    /// ```
+    pub fn is_at_work(self) -> bool {
+        matches!(self.state(), State::AtWork(_))
     }
 
     /// The option chosen for the feature, if it has a choice.
@@ -94,15 +168,14 @@ impl<'desk> Seat<'desk> {
     /// assert_eq!(desk.seat(0)?.choice(0), None);
     /// # Ok::<(), nethazel::Refusal>(())
     /// ```
-    pub fn choice(self, feature: usize) -> Option<u8> {
-        self.0
-            .choices
-            .get(feature)
-            .copied()
-            .filter(|&choice| choice != 255)
+    pub fn choice(self, feature: usize) -> Option<usize> {
+        let option = self.0.choices.get(feature);
+        option
+            .filter(|option| **option != 255)
+            .map(|option| usize::from(*option))
     }
 
-    /// The sixteen choices; 255 for none.
+    /// The sixteen choices as they stand in the record; 255 for none.
     ///
     /// ```
     /// # let desk = nethazel::Desk::open(&nethazel::Catalogue::new(&[1]))?;
@@ -113,8 +186,8 @@ impl<'desk> Seat<'desk> {
         &self.0.choices
     }
 
-    /// The sixteen masks of options left: bit `a` for option `a`. While the seat is at work they grow; of meaning once it
-    /// is ready.
+    /// The sixteen masks of options left, as they stand in the record: bit `a` for option `a`. While the seat is at work
+    /// they grow; of meaning once it is ready.
     ///
     /// ```
     /// # let desk = nethazel::Desk::open(&nethazel::Catalogue::new(&[1]))?;

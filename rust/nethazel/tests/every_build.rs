@@ -18,18 +18,18 @@ impl Chance {
 }
 
 struct Rule {
-    features: Vec<u16>,
-    rows: Vec<Vec<u16>>,
+    features: Vec<usize>,
+    rows: Vec<Vec<usize>>,
 }
 
-fn any_rule(chance: &mut Chance, sizes: &[u8]) -> Rule {
-    let mut features: Vec<u16> = (0..sizes.len() as u16).collect();
+fn any_rule(chance: &mut Chance, sizes: &[usize]) -> Rule {
+    let mut features: Vec<usize> = (0..sizes.len()).collect();
     while features.len() > 3 || features.len() > 1 && chance.below(3) == 0 {
         features.swap_remove(chance.below(features.len()));
     }
     let mut rows = vec![vec![]];
     for &feature in &features {
-        let options = 0..u16::from(sizes[usize::from(feature)]);
+        let options = 0..sizes[feature];
         rows = rows
             .iter()
             .flat_map(|row| {
@@ -43,10 +43,11 @@ fn any_rule(chance: &mut Chance, sizes: &[u8]) -> Rule {
     Rule { features, rows }
 }
 
-type Choice = (usize, u8); // an option of a feature
+type Choice = (usize, usize); // a feature and its option
+type Build = Vec<usize>;
 
 /// All builds in dictionary order that satisfy every rule.
-fn builds(sizes: &[u8], rules: &[Rule]) -> Vec<Vec<u8>> {
+fn builds(sizes: &[usize], rules: &[Rule]) -> Vec<Build> {
     let mut builds = vec![vec![]];
     for &size in sizes {
         builds = builds
@@ -54,8 +55,8 @@ fn builds(sizes: &[u8], rules: &[Rule]) -> Vec<Vec<u8>> {
             .flat_map(|build| (0..size).map(move |option| [&build[..], &[option]].concat()))
             .collect();
     }
-    builds.retain(|build: &Vec<u8>| {
-        let at = |feature: &u16| u16::from(build[usize::from(*feature)]);
+    builds.retain(|build: &Build| {
+        let at = |feature: &usize| build[*feature];
         let satisfies = |rule: &Rule| rule.rows.contains(&rule.features.iter().map(at).collect());
         rules.iter().all(satisfies)
     });
@@ -64,30 +65,28 @@ fn builds(sizes: &[u8], rules: &[Rule]) -> Vec<Vec<u8>> {
 
 /// The first build that has the option at the feature, and all the choices.
 fn first_with<'a>(
-    builds: &'a [Vec<u8>],
+    builds: &'a [Build],
     choices: &[Choice],
     feature: usize,
-    option: u8,
-) -> Option<&'a Vec<u8>> {
+    option: usize,
+) -> Option<&'a Build> {
     let mut builds = builds.iter();
     builds.find(|build| build[feature] == option && choices.iter().all(|&(at, a)| build[at] == a))
 }
 
 /// Seat 5, ready under the choices, shows each option exactly when a build has it with every choice, the first such build
 /// as example.
-fn compare_options(desk: &Desk, builds: &[Vec<u8>], choices: &[Choice]) -> Result<(), Refusal> {
-    for (feature, &size) in desk.catalogue().sizes().iter().enumerate() {
+fn compare_options(desk: &Desk, builds: &[Build], choices: &[Choice]) -> Result<(), Refusal> {
+    for feature in 0..desk.catalogue().features() {
         let left = desk.options(5, feature)?;
-        assert_eq!(left.iter().count(), left.count() as usize);
-        for option in 0..size {
+        assert_eq!(left.iter().count(), left.count());
+        for option in 0..desk.catalogue().size(feature).unwrap() {
             let first = first_with(builds, choices, feature, option);
-            assert_eq!(left.has(option.into()), first.is_some());
+            assert_eq!(left.has(option), first.is_some());
+            let example = desk.example(5, feature, option);
             match first {
-                Some(build) => assert!(desk.example(5, feature, option.into())?.starts_with(build)),
-                None => assert_eq!(
-                    desk.example(5, feature, option.into()),
-                    Err(Refusal::OptionNotLeft)
-                ),
+                Some(build) => assert!(example?.options().eq(build.iter().copied())),
+                None => assert_eq!(example, Err(Refusal::OptionNotLeft)),
             }
         }
     }
@@ -101,12 +100,8 @@ fn without(choices: &[Choice], feature: usize) -> Vec<Choice> {
 }
 
 /// As what could replace a choice it shows an option exactly when a build has it with every other choice.
-fn compare_alternatives(
-    desk: &Desk,
-    builds: &[Vec<u8>],
-    choices: &[Choice],
-) -> Result<(), Refusal> {
-    for (feature, &size) in desk.catalogue().sizes().iter().enumerate() {
+fn compare_alternatives(desk: &Desk, builds: &[Build], choices: &[Choice]) -> Result<(), Refusal> {
+    for feature in 0..desk.catalogue().features() {
         let others = without(choices, feature);
         if others.len() == choices.len() {
             let refused = desk.alternatives(5, feature);
@@ -114,22 +109,22 @@ fn compare_alternatives(
             continue;
         }
         let alternatives = desk.alternatives(5, feature)?;
-        assert_eq!(alternatives.iter().count(), alternatives.count() as usize);
-        for option in 0..size {
+        assert_eq!(alternatives.iter().count(), alternatives.count());
+        for option in 0..desk.catalogue().size(feature).unwrap() {
             let first = first_with(builds, &others, feature, option);
-            assert_eq!(alternatives.has(option.into()), first.is_some());
+            assert_eq!(alternatives.has(option), first.is_some());
         }
     }
     Ok(())
 }
 
-fn compare(desk: &Desk, builds: &[Vec<u8>], choices: &[Choice]) -> Result<(), Refusal> {
+fn compare(desk: &Desk, builds: &[Build], choices: &[Choice]) -> Result<(), Refusal> {
     compare_options(desk, builds, choices)?;
     compare_alternatives(desk, builds, choices)
 }
 
 /// Once a choice is dropped, the options left of its feature are those that could have replaced it.
-fn compare_relaxed(desk: &Desk, builds: &[Vec<u8>], choices: &[Choice]) -> Result<(), Refusal> {
+fn compare_relaxed(desk: &Desk, builds: &[Build], choices: &[Choice]) -> Result<(), Refusal> {
     for &(feature, _) in choices {
         let mut relaxed = desk.clone();
         relaxed.relax(5, feature)?;
@@ -144,9 +139,7 @@ fn compare_relaxed(desk: &Desk, builds: &[Vec<u8>], choices: &[Choice]) -> Resul
 fn options_examples_and_alternatives_are_those_of_all_builds() -> Result<(), Refusal> {
     let mut chance = Chance(4711);
     for _ in 0..200 {
-        let sizes: Vec<u8> = (0..=chance.below(5))
-            .map(|_| 1 + chance.below(4) as u8)
-            .collect();
+        let sizes: Vec<usize> = (0..=chance.below(5)).map(|_| 1 + chance.below(4)).collect();
         let rules: Vec<Rule> = (0..chance.below(5))
             .map(|_| any_rule(&mut chance, &sizes))
             .collect();
@@ -168,7 +161,7 @@ fn options_examples_and_alternatives_are_those_of_all_builds() -> Result<(), Ref
             if let Some(option) = desk.options(5, feature)?.iter().last() {
                 desk.choose(5, feature, option)?;
                 finish(&mut desk)?;
-                choices.push((feature, option as u8));
+                choices.push((feature, option));
                 compare(&desk, &builds, &choices)?;
             }
         }

@@ -79,6 +79,23 @@ fn more_rows_than_a_number_holds_are_refused_and_never_cut() {
 }
 
 #[test]
+fn numbers_above_16_bits_are_refused_and_never_cut() {
+    let open = |features: &[usize], row: &[usize]| {
+        let catalogue = Catalogue::new(&[3, 3]).rule_of_rows(features, &[row]);
+        Desk::open(&catalogue.expect("an even row")).err()
+    };
+    assert_eq!(open(&[0, 1], &[2, 2]), None);
+    for cut_to_0 in [1 << 16, 1 << 32] {
+        assert_eq!(open(&[cut_to_0, 1], &[2, 2]), Some(Refusal::RuleFeature));
+        assert_eq!(open(&[0, 1], &[2, cut_to_0]), Some(Refusal::RowOption));
+        let by_type = Catalogue::new(&[3, 3]).rule(&[0, 1], &[[2, cut_to_0]]);
+        assert_eq!(Desk::open(&by_type), Err(Refusal::RowOption));
+        let sized = Catalogue::new(&[3, cut_to_0 + 3]);
+        assert_eq!(Desk::open(&sized), Err(Refusal::Size));
+    }
+}
+
+#[test]
 fn the_builder_writes_what_from_numbers_takes() {
     let list = [
         2, 4, 0, 1, 0, 1, 1, 0, 1, 2, 2, 1, 2, 4, 1, 2, 0, 0, 1, 1, 2, 0, 2, 1,
@@ -160,7 +177,7 @@ fn every_refusal_says_its_number_and_words_of_its_own() {
         assert!(refusal
             .to_string()
             .ends_with(&format!(" (refusal {})", refusal.number())));
-        assert_eq!(Refusal::from_number(refusal.number()), Some(refusal));
+        assert_eq!(Refusal::from_number(refusal.number()), Some(*refusal));
     }
     assert_eq!(
         (0..=255).filter_map(Refusal::from_number).count(),

@@ -14,7 +14,7 @@ fn entered(catalogue: &Catalogue) -> Result<(Desk, u64), Refusal> {
 }
 
 fn left(desk: &Desk) -> Result<Vec<String>, Refusal> {
-    let features = 0..desk.catalogue().sizes().len();
+    let features = 0..desk.catalogue().features();
     features
         .map(|feature| desk.options(3, feature).map(|left| left.to_string()))
         .collect()
@@ -65,7 +65,7 @@ fn p3_to_p5_the_first_builds_stand_as_examples() -> Result<(), Refusal> {
     let (desk, _) = entered(&trolley())?;
     let none = [255; 13];
     for (feature, option, build) in [(0, 1, [1, 0, 0]), (1, 2, [1, 2, 0]), (2, 1, [0, 1, 1])] {
-        let example = desk.example(3, feature, option)?;
+        let example = desk.example(3, feature, option)?.bytes();
         assert_eq!((&example[..3], &example[3..]), (&build[..], &none[..]));
         let stands = &desk.board().share(3).unwrap()[feature * 256 + option * 16..][..16];
         assert_eq!(stands, example);
@@ -103,7 +103,7 @@ fn both_options_of_the_chosen_feature_are_alternatives() -> Result<(), Refusal> 
 /// Source document 002's first example: three features of four options, all different.
 #[test]
 fn of_two_unequal_choices_neither_can_replace_the_other() -> Result<(), Refusal> {
-    let unequal: Vec<[u16; 2]> = (0..16)
+    let unequal: Vec<[usize; 2]> = (0..16)
         .map(|pair| [pair / 4, pair % 4])
         .filter(|row| row[0] != row[1])
         .collect();
@@ -152,10 +152,11 @@ fn eight_seats_are_ready_at_turns_305_to_312() -> Result<(), Refusal> {
     }
     desk.turns(304)?;
     for seat in 0..8 {
-        assert!(matches!(desk.seat(seat)?.state(), State::AtWork(_)));
+        assert!(desk.at_work().eq(seat..8));
         desk.turns(1)?;
         assert_eq!(desk.seat(seat)?.state(), State::Ready);
     }
+    assert!(!desk.is_working());
     assert_eq!(desk.turns(1)?.made, 0);
     Ok(())
 }
