@@ -37,7 +37,8 @@
    open, enter, leave, choose, relax and turns, and must then overlap no other memory that is lent to the call; options,
    alternatives and example read it. Pointers are never NULL, also with length 0, and rules are aligned as uint16_t is.
    Hand desk and board on together, from call to call, with one catalogue: a board that others wrote to shows what they
-   wrote.
+   wrote. A seat has a byte of padding after its choices and a desk one at its end, which may hold anything: compare and
+   store desks field by field.
 
    Threads. Nothing is shared between calls but what the caller lends. Two threads may call at the same time with two
    boards; with one board only where neither call writes it. A call needs up to some 12 KB of stack: give a thread 64 KB

@@ -1,7 +1,7 @@
 //! Finds the proved archive, or makes it, looks that it has this crate's layout, and has it linked.
 //!
 //! `NETHAZEL_ARCHIVE` may name the archive, for a host that has no `rt`. Else it is the repository's own,
-//! `target/staticlib/libhost.a`, made again where it is older than the code that it was made from.
+//! `target/staticlib/libhost.a`, which `tools/archive` makes again where it is older than the code that it was made from.
 //!
 //! A wrong archive ends the build at once. Where there is none that could be linked, checking and documenting still work,
 //! for they link nothing: see `link_nothing`.
@@ -9,7 +9,6 @@
 use std::collections::BTreeSet;
 use std::path::{Path, PathBuf};
 use std::process::{exit, Command};
-use std::time::SystemTime;
 use std::{env, fs};
 
 include!("src/layout.rs");
@@ -87,13 +86,10 @@ fn repository_archive() -> Result<PathBuf, Missing> {
     let archive = repository.join("target/staticlib/libhost.a");
     println!("cargo:rerun-if-changed={}", crates.display());
     println!("cargo:rerun-if-changed={}", archive.display());
-    let made = changed(&archive);
-    if made.is_none() || made < newest_code(&crates) {
-        make(&repository)?;
-    }
+    make(&repository)?;
     if !archive.is_file() {
         let archive = archive.display();
-        fail(&format!("`rt staticlib host` left no {archive}"));
+        fail(&format!("tools/archive left no {archive}"));
     }
     look_at_layout(&archive);
     Ok(archive)
@@ -111,46 +107,32 @@ fn outside_the_repository() -> Missing {
     }
 }
 
+/// Makes the archive where it has to be made, one after another where several want to.
 fn make(repository: &Path) -> Result<(), Missing> {
-    let made = Command::new("rt")
-        .args(["staticlib", "host"])
-        .current_dir(repository)
-        .output();
-    match made {
-        Ok(output) if output.status.success() => Ok(()),
-        Ok(output) => fail(&format!(
-            "`rt staticlib host` failed:\n{}{}",
-            String::from_utf8_lossy(&output.stdout),
+    let archive = repository.join("tools/archive");
+    let output = match Command::new(&archive).output() {
+        Ok(output) => output,
+        Err(error) => fail(&format!("{} can't be run ({error})", archive.display())),
+    };
+    match output.status.code() {
+        Some(0) => Ok(()),
+        Some(3) => Err(without_rt()),
+        _ => fail(&format!(
+            "tools/archive failed:\n{}",
             String::from_utf8_lossy(&output.stderr)
         )),
-        Err(error) => Err(Missing {
-            name: "nethazel has no archive that is up to date, and no rt to make it".to_string(),
-            words: Some(format!(
-                "the archive target/staticlib/libhost.a is missing or older than the code, and `rt`, which makes it, \
-                 can't be run ({error}); install the Rattle kit, or name an archive in NETHAZEL_ARCHIVE"
-            )),
-        }),
     }
 }
 
-fn changed(file: &Path) -> Option<SystemTime> {
-    fs::metadata(file).and_then(|about| about.modified()).ok()
-}
-
-/// When a Rattle source below the folder was last changed.
-fn newest_code(folder: &Path) -> Option<SystemTime> {
-    let entries = fs::read_dir(folder).into_iter().flatten().flatten();
-    entries.filter_map(|entry| newest_at(&entry.path())).max()
-}
-
-fn newest_at(path: &Path) -> Option<SystemTime> {
-    if path.is_dir() {
-        return newest_code(path);
+fn without_rt() -> Missing {
+    Missing {
+        name: "nethazel has no archive that is up to date, and no rt to make it".to_string(),
+        words: Some(
+            "the archive target/staticlib/libhost.a is missing or older than the code, and there is no `rt`, which \
+             makes it; install the Rattle kit, or name an archive in NETHAZEL_ARCHIVE"
+                .to_string(),
+        ),
     }
-    let code = path
-        .extension()
-        .map_or(false, |extension| extension == "rt");
-    code.then(|| changed(path)).flatten()
 }
 
 /// An archive of another layout would not be linked either, but the linker names only the symbols that it misses.

@@ -2,7 +2,7 @@
 //! seat and makes a choice. The threads give their desks turns in portions, and pass over those on which nobody is at work.
 //! At the end every clinic's answers are held to all builds, one after another.
 //!
-//! usage: platform [CLINICS [THREADS [TURNS]]], numbers from 1 on; TURNS a portion, at most 65535
+//! usage: platform [CLINICS [THREADS [TURNS]]], numbers from 1 on, else 10000 4 64; TURNS a portion, at most 65535
 
 use nethazel::{Board, Catalogue, Desk, Refusal};
 use std::error::Error;
@@ -31,7 +31,7 @@ const SEATS: usize = 8;
 const ROUNDS_OF_ARRIVAL: usize = 32;
 
 const USAGE: &str =
-    "usage: platform [CLINICS [THREADS [TURNS]]], numbers from 1 on; TURNS a portion, at most 65535";
+    "usage: platform [CLINICS [THREADS [TURNS]]], numbers from 1 on, else 10000 4 64; TURNS a portion, at most 65535";
 
 fn main() -> Result<(), Box<dyn Error>> {
     let arguments: Vec<String> = std::env::args().skip(1).collect();
