@@ -16,6 +16,7 @@ use lines::end_of;
 use lines::first;
 use lines::least;
 use lines::read_numbers;
+use lines::report_number;
 use lines::same;
 use lines::text;
 use room::Room;
@@ -24,6 +25,7 @@ use room::obey;
 // What has become of a script's lines.
 pub struct Sitting {
     pub room: Room,
+    pub lines: u64, // so far
     pub answered: u64,
     pub not_understood: u64,
     pub ended: bool, // after quit
@@ -78,6 +80,7 @@ fn respond(
 }
 
 pub fn not_understood(sitting: Sitting) -> Sitting {
+    report_number(b"missed ", sitting.lines);
     let mut changed = sitting;
     changed.not_understood = std::num::wrapping_add_u64(sitting.not_understood, 1);
     changed
@@ -86,6 +89,7 @@ pub fn not_understood(sitting: Sitting) -> Sitting {
 fn answered(sitting: Sitting, room: Room, command: usize) -> Sitting {
     Sitting {
         room,
+        lines: sitting.lines,
         answered: std::num::wrapping_add_u64(sitting.answered, 1),
         not_understood: sitting.not_understood,
         ended: ends(command),

@@ -11,7 +11,7 @@ use lines::between;
 use lines::end_of;
 use lines::is_person;
 use lines::read_some;
-use lines::report_end;
+use lines::report_number;
 use lines::text;
 use shown::help;
 
@@ -34,6 +34,7 @@ pub fn script(fd: i32) {
     let room = room::trolley(&mut board, &mut sizes, &mut rules, watched);
     let start = Sitting {
         room,
+        lines: 0,
         answered: 0,
         not_understood: 0,
         ended: false,
@@ -46,7 +47,7 @@ pub fn script(fd: i32) {
     }
     around(b"end: ", sitting.answered, b" answered, ");
     around(b"", sitting.not_understood, b" not understood\n");
-    report_end(sitting.not_understood);
+    report_number(b"end ", sitting.not_understood);
 }
 
 // The last line may lack its line feed; after quit, and where it doesn't, none of it is left.
@@ -203,7 +204,7 @@ fn next_line(
 }
 
 fn whole(
-    sitting: Sitting,
+    before: Sitting,
     board: &mut [u8],
     sizes: &mut [u8],
     rules: &mut [u16],
@@ -211,6 +212,8 @@ fn whole(
     line: &[u8],
     length: usize,
 ) -> Sitting {
+    let mut sitting = before;
+    sitting.lines = std::num::wrapping_add_u64(before.lines, 1);
     if LONGEST < length {
         text(b"not understood; a line has at most 65536 bytes\n");
         return not_understood(sitting);

@@ -32,5 +32,5 @@ pub use writing::hexadecimal;
 pub use writing::masks;
 pub use writing::number;
 pub use writing::report;
-pub use writing::report_end;
+pub use writing::report_number;
 pub use writing::text;

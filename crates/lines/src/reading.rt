@@ -75,7 +75,7 @@ enum Number {
     Wrong,
 }
 
-// Reads the numbers after a command's word. More than there is room for is wrong for every command.
+// Reads the numbers after a command's word, up to a remark. More than there is room for is wrong for every command.
 pub fn read_numbers(line: &[u8], numbers: &mut [u32]) -> Numbers {
     let mut at = 0usize;
     let mut count = 0usize;
@@ -83,6 +83,9 @@ pub fn read_numbers(line: &[u8], numbers: &mut [u32]) -> Numbers {
     while 0 < left {
         let start = end_of(line, at, Stretch::Blanks);
         if start == line.len() {
+            return Numbers::Count(count);
+        }
+        if line[start] == b'#' {
             return Numbers::Count(count);
         }
         at = end_of(line, start, Stretch::Word);

@@ -27,9 +27,9 @@ pub fn report(words: &[u8]) {
     io::write_all(REPORT, words);
 }
 
-pub fn report_end(not_understood: u64) {
-    report(b"end ");
-    io::print_decimal(REPORT, not_understood);
+pub fn report_number(word: &[u8], n: u64) {
+    report(word);
+    io::print_decimal(REPORT, n);
     report(b"\n");
 }
 

@@ -91,8 +91,8 @@ pub fn set(
 fn set_sizes(room: Room, sizes: &mut [u8], numbers: &[u32]) -> Room {
     let mut changed = room;
     changed.sizes_count = put_sizes(sizes, numbers);
-    written::sizes(between(sizes, 0, changed.sizes_count));
-    say_open(room.desk);
+    let good = written::sizes(between(sizes, 0, changed.sizes_count));
+    say_open(room.desk, good);
     changed
 }
 
@@ -102,16 +102,21 @@ fn add_rules(room: Room, from: usize, sizes: &[u8], rules: &mut [u16], numbers: 
     let count = put_rules(rules, from, numbers);
     changed.rules_count = count;
     let r = least(count, rules.len());
-    written::rules(between(sizes, 0, room.sizes_count), &rules[0..r]);
-    say_open(room.desk);
+    let good = written::rules(between(sizes, 0, room.sizes_count), &rules[0..r]);
+    say_open(room.desk, good);
     changed
 }
 
-// A new catalogue leaves the desk as it is.
-fn say_open(desk: Desk) {
-    if some_open(desk) {
-        text(b"seats are still open on the old catalogue; open begins anew\n");
+// A new catalogue leaves the desk as it is, and one with a fault is not opened.
+fn say_open(desk: Desk, good: bool) {
+    if !some_open(desk) {
+        return;
     }
+    text(b"seats are still open on the old catalogue; ");
+    if !good {
+        text(b"mend the fault, then ");
+    }
+    text(b"open begins anew\n");
 }
 
 fn some_open(desk: Desk) -> bool {

@@ -20,26 +20,7 @@ help lists the rest; quit ends.
 
 ";
 
-const HELP: [u8; 2449] = *b"The desk's calls:
-  open                             a fresh desk: eight seats, all closed
-  enter SEAT                       a closed seat comes in
-  leave SEAT                       an open seat goes
-  choose SEAT FEATURE OPTION       a ready seat takes an option that is left
-  relax SEAT FEATURE               a ready seat drops its choice
-  options SEAT FEATURE             the options left of one feature
-  alternatives SEAT FEATURE        what could replace the choice of one feature
-  example SEAT FEATURE OPTION      the first build with an option that is left
-  turns TURNS                      so many turns; fewer when no seat is at work
-  work SEAT                        turns until the seat is ready
-Catalogue and board:
-  trolley                          everything as at the start
-  sizes SIZE ...                   how many options each feature has
-  rules NUMBER ...                 the rule list, rule by rule: how many
-                                   features and rows, the features, the rows
-  more NUMBER ...                  the same, added to the end of the list
-  board LENGTH BYTE                a board of so many bytes, all the same
-  set-byte PLACE BYTE              one byte of the board
-The desk's fields, set by hand to try what is refused:
+const HELP: [u8; 2323] = *b"The desk's fields, set by hand to try what is refused:
   set-next SEAT                    where the next turn begins to look
   set-closed SEAT                  the state of a seat: closed
   set-ready SEAT                   the state of a seat: ready
@@ -48,17 +29,34 @@ The desk's fields, set by hand to try what is refused:
   set-mask SEAT FEATURE MASK       one mask of options left
   set-alternatives SEAT FEATURE MASK        one mask of alternatives
   set-trial SEAT FEATURE OPTION    one entry of the trial; 255 is none
-Looking:
+  board LENGTH BYTE                a board of so many bytes, all the same
+  set-byte PLACE BYTE              one byte of the board
   seat SEAT                        a seat's record
   desk                             next and all eight records
   share SEAT                       the examples on the board
-  list SEAT                        what a seat shows, or how far its search is
+  digest                           one number over desk and board
+The catalogue:
+  sizes SIZE ...                   how many options each feature has
+  rules NUMBER ...                 the rule list, rule by rule: how many
+                                   features and rows, the features, the rows
+  more NUMBER ...                  the same, added to the end of the list
   catalogue                        features and rules in columns
   numbers                          the same as two lines that can be given back
-  digest                           one number over desk and board
-  help                             these lines
-  quit, exit                       the end
-A line that begins with # is a remark. Numbers have blanks or commas between.
+  trolley                          everything as at the start
+The desk:
+  open                             a fresh desk: eight seats, all closed
+  enter SEAT                       a closed seat comes in
+  leave SEAT                       an open seat goes
+  work SEAT                        turns until the seat is ready
+  turns TURNS                      so many turns, at most 65535
+  list SEAT                        what a seat shows, or how far its search is
+  options SEAT FEATURE             the options left of one feature
+  example SEAT FEATURE OPTION      the first product with that option
+  choose SEAT FEATURE OPTION       a ready seat takes an option that is left
+  alternatives SEAT FEATURE        what could replace the choice of one feature
+  relax SEAT FEATURE               a ready seat drops its choice
+help, quit, exit. What stands after # is a remark. Numbers have blanks or
+commas between.
 ";
 
 // For a person who has just sat down.

@@ -1,4 +1,5 @@
-// The lines that answer new sizes and new rules: how many numbers, and what they make or which fault they have.
+// The lines that answer new sizes and new rules: how many numbers, and what they make or which fault they have. Both answer
+// whether there is none.
 use crate::met::Met;
 use crate::met::feature_met;
 use crate::met::meet;
@@ -12,35 +13,34 @@ use shown::Lengths;
 use shown::words_of_room;
 
 // The sizes are looked at alone, as if there were no rule.
-pub fn sizes(sizes: &[u8]) {
+pub fn sizes(sizes: &[u8]) -> bool {
     count_of_numbers(sizes.len());
-    features_or_fault(sizes, &[0u16; 0]);
-    text(b"\n");
+    features_or_fault(sizes, &[0u16; 0])
 }
 
-fn features_or_fault(sizes: &[u8], rules: &[u16]) {
-    let found = meet(sizes, rules);
-    if found.fault == 0 {
-        counted(sizes.len() as u64, b"feature");
-    } else {
-        fault(found, sizes, rules);
-    }
+fn features_or_fault(sizes: &[u8], rules: &[u16]) -> bool {
+    made_or_fault(meet(sizes, rules), sizes, rules, sizes.len(), b"feature")
 }
 
-pub fn rules(sizes: &[u8], rules: &[u16]) {
+pub fn rules(sizes: &[u8], rules: &[u16]) -> bool {
     let found = meet(sizes, rules);
     count_of_numbers(rules.len());
-    if found.fault == 0 {
-        counted(found.rules as u64, b"rule");
-    } else {
-        fault(found, sizes, rules);
-    }
-    text(b"\n");
+    made_or_fault(found, sizes, rules, found.rules, b"rule")
 }
 
 fn count_of_numbers(n: usize) {
     counted(n as u64, b"number");
     text(b": ");
+}
+
+fn made_or_fault(found: Met, sizes: &[u8], rules: &[u16], count: usize, what: &[u8]) -> bool {
+    if found.fault == 0 {
+        counted(count as u64, what);
+    } else {
+        fault(found, sizes, rules);
+    }
+    text(b"\n");
+    found.fault == 0
 }
 
 // A fault, where it was met, and its words.

@@ -4,6 +4,7 @@ use crate::cases::{answers, last};
 use crate::expect::transcript;
 
 const OPEN: &str = "seats are still open on the old catalogue; open begins anew";
+const MEND: &str = "seats are still open on the old catalogue; mend the fault, then open begins anew";
 const ROW: &str = "a row has an option that is not below its feature's size";
 
 /// The whole transcript of bytes, its end line too.
@@ -58,10 +59,49 @@ fn a_remark_may_stand_after_blanks() {
     let remarks = " #\n\t# a \n,#b,\n\r# c\n \t,\r#d\r\n";
     let expected = format!("{}end: 0 answered, 0 not understood\n", remarks);
     assert_eq!(whole(remarks.as_bytes()), expected.as_bytes());
-    // Another byte before it, or none that is a blank: no remark.
+    // Another byte before it that is no blank: not written back.
     assert_eq!(last("x #\n"), "not understood; help lists the commands");
     assert_eq!(last("\u{b}#\n"), "not understood; help lists the commands");
-    assert_eq!(last("open #\n"), "not understood; write: open");
+}
+
+#[test]
+fn a_remark_may_stand_behind_a_command() {
+    // The document's own line; each blank; whatever comes after it, and nothing.
+    let entered = "seat 3 has entered and is at work";
+    for remark in [
+        " # our clinic", " #", "\t#", ",#", "\r#", " ,\t\r#\r", " #4", " # 4 5", " ##", " #,#", " # # x", " #\u{feff}",
+        " #\0",
+    ] {
+        assert_eq!(answers(&format!("enter 3{}\n", remark)), [entered]);
+    }
+    let expected = format!("{}\nend: 1 answered, 0 not understood\n", entered);
+    assert_eq!(whole(b"\xef\xbb\xbf enter 3 #\xff\x80"), expected.as_bytes());
+    // Behind the word alone: the numbers are none of the command's.
+    assert_eq!(answers("open # 1\nmore #3\n"), ["opened: eight seats, all closed", "24 numbers: 2 rules"]);
+    assert_eq!(last("enter # 3\n"), "not understood; write: enter SEAT");
+    assert_eq!(last("enter 3 4 # 5\n"), "not understood; write: enter SEAT");
+    assert_eq!(last("opne # open\n"), "not understood; help lists the commands");
+    // It ends as the word alone does.
+    assert_eq!(whole(b"exit # for today\nturns 0\n"), b"end: 1 answered, 0 not understood\n");
+}
+
+#[test]
+fn a_number_sign_without_a_blank_is_no_remark() {
+    // Part of the number, then of the word; a blank after it, or a remark behind, does not help.
+    for line in ["enter 3#", "enter 3#4", "enter 3# 4", "enter 3# our clinic", "enter 3# # 4", "enter 3\u{b}#"] {
+        assert_eq!(answers(&format!("{}\n", line)), ["not understood; write: enter SEAT"]);
+    }
+    assert_eq!(last("digest \u{feff}# x\n"), "not understood; write: digest");
+    for line in ["open#", "open# x", "open#,#", "quit#", "open\u{b}#", "open\0#"] {
+        assert_eq!(answers(&format!("{}\n", line)), ["not understood; help lists the commands"]);
+    }
+}
+
+#[test]
+fn a_remark_behind_a_command_counts_for_the_length() {
+    let said = |remark: usize| last(&format!("turns 0 #{}\n", "x".repeat(remark - 1)));
+    assert_eq!(said(65_536 - 8), "0 turns made, no seat is at work");
+    assert_eq!(said(65_537 - 8), "not understood; a line has at most 65536 bytes");
 }
 
 #[test]
@@ -174,8 +214,20 @@ fn seats_still_open() {
         assert_eq!(after(before, "more"), ["24 numbers: 2 rules", OPEN]);
         assert_eq!(after(before, "rules"), ["0 numbers: 0 rules", OPEN]);
         let fault = "1 number: fault 14 in rule 0: the rule list ends within a rule";
-        assert_eq!(after(before, "rules 1"), [fault, OPEN]);
+        assert_eq!(after(before, "rules 1"), [fault, MEND]);
+        let none = "0 numbers: fault 10: the catalogue has 0 features, not 1 to 16";
+        assert_eq!(after(before, "sizes"), [none, MEND]);
+        let in_third = "25 numbers: fault 14 in rule 2: the rule list ends within a rule";
+        assert_eq!(after(before, "more 1"), [in_third, MEND]);
+        // The trolley's list has a fault with this size, which sizes does not name.
+        assert_eq!(after(before, "sizes 1"), ["1 number: 1 feature", OPEN]);
     }
+    // Named again, though the line is not the one that made it; gone with the line that mends it.
+    let mended = after("enter 7\n", "rules 1\nmore\nsizes 3 3 2\nmore 0 0");
+    let mended: Vec<&String> = mended.iter().skip(1).step_by(2).collect();
+    assert_eq!(mended, [MEND, MEND, OPEN, OPEN]);
+    // A fault, but no seat open: no second line.
+    assert_eq!(after("", "sizes 17"), ["1 number: fault 11 in feature 0: a size is 0 or above 16"]);
     assert_eq!(last("enter 7\nset-closed 7\nmore\n"), "24 numbers: 2 rules");
     assert_eq!(last("enter 7\nopen\nmore\n"), "24 numbers: 2 rules");
 }

@@ -101,7 +101,8 @@ impl Session {
             }
             return Kind::Remark;
         }
-        let mut parts = line.split(blank).filter(|part| !part.is_empty());
+        let command = before_remark(line);
+        let mut parts = command.split(blank).filter(|part| !part.is_empty());
         let word = String::from_utf8_lossy(parts.next().unwrap_or(b"")).into_owned();
         let form = match words::form_of(&word) {
             None => {
@@ -114,6 +115,9 @@ impl Session {
         match numbers {
             Some(numbers) if self.takes(&word, &numbers) => {
                 self.answered += 1;
+                if command.len() < line.len() {
+                    self.tally.see(Seen::RemarkBehindCommand);
+                }
                 self.perform(&word, &numbers, out);
                 Kind::Command
             }
@@ -199,6 +203,12 @@ impl Session {
 /// "Blanks are the space, the tab, the comma and the carriage return."
 fn blank(byte: &u8) -> bool {
     matches!(byte, b' ' | b'\t' | b',' | b'\r')
+}
+
+/// What is left of a command's line where "a `#` after a blank begins a remark that ends the command".
+pub fn before_remark(line: &[u8]) -> &[u8] {
+    let end = line.windows(2).position(|pair| blank(&pair[0]) && pair[1] == b'#');
+    &line[..end.unwrap_or(line.len())]
 }
 
 /// "A number is decimal digits alone, at most 4294967295."

@@ -26,7 +26,9 @@ impl Session {
         say(out, &format!("{}: {}", counted(count, "number"), what));
         let open = self.desk.seats.iter().filter(|record| record.state != State::Closed).count();
         if open > 0 {
-            say(out, "seats are still open on the old catalogue; open begins anew");
+            // "if the first line named a fault": one of the list is not named by `sizes`.
+            let mend = if fault.is_some() { "mend the fault, then " } else { "" };
+            say(out, &format!("seats are still open on the old catalogue; {}open begins anew", mend));
         }
         self.tally_catalogue(word, fault, open);
     }

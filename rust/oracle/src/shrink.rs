@@ -2,7 +2,7 @@
 
 use crate::console::Console;
 use crate::difference::{self, Difference};
-use crate::script::MARK;
+use crate::script::{before_remark, MARK};
 use std::time::{Duration, Instant};
 
 pub struct Shrunk {
@@ -190,7 +190,7 @@ impl Shrinker<'_> {
         false
     }
 
-    /// Lines without their byte-order mark, and with single blanks alone.
+    /// Lines without their byte-order mark, with single blanks alone, and without a remark behind.
     fn plainer_lines(&mut self) {
         for line in 0..self.best.lines.len() {
             for plainer in plainer(self.best.lines.get(line).map_or(&[][..], |line| line)) {
@@ -291,13 +291,18 @@ fn edits(line: &[u8]) -> Vec<Vec<u8>> {
 /// A line in plainer forms, those that are others than itself.
 fn plainer(line: &[u8]) -> Vec<Vec<u8>> {
     let unmarked = line.strip_prefix(MARK).unwrap_or(line);
-    let words: Vec<&[u8]> = unmarked
+    let mut forms = vec![unmarked.to_vec(), single_blanks(unmarked), single_blanks(before_remark(unmarked))];
+    forms.dedup();
+    forms.retain(|form| &form[..] != line);
+    forms
+}
+
+fn single_blanks(line: &[u8]) -> Vec<u8> {
+    let words: Vec<&[u8]> = line
         .split(|byte| matches!(byte, b' ' | b'\t' | b',' | b'\r'))
         .filter(|word| !word.is_empty())
         .collect();
-    let mut forms = vec![unmarked.to_vec(), words.join(&b' ')];
-    forms.retain(|form| &form[..] != line);
-    forms
+    words.join(&b' ')
 }
 
 /// A line that sets a field of a seat.
@@ -338,5 +343,7 @@ mod tests {
         assert!(plainer(b"").is_empty());
         assert_eq!(plainer(b",enter\t3\r"), [b"enter 3".to_vec()]);
         assert_eq!(plainer(b"\xef\xbb\xbf enter 3"), [b" enter 3".to_vec(), b"enter 3".to_vec()]);
+        assert_eq!(plainer(b"enter 3,# 4"), [b"enter 3 # 4".to_vec(), b"enter 3".to_vec()]);
+        assert!(plainer(b"enter 3#").is_empty());
     }
 }

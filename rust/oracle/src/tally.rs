@@ -13,6 +13,7 @@ pub enum Seen {
     MarkNotUnderstood,
     MarkTooLong,
     RemarkAfterBlanks,
+    RemarkBehindCommand,
     Quit,
     Exit,
     NumbersLine,
@@ -41,13 +42,14 @@ pub enum Seen {
     FaultRowFromTen,
 }
 
-pub const SEEN: [(Seen, &str); 32] = [
+pub const SEEN: [(Seen, &str); 33] = [
     (Seen::MarkCommand, "a byte-order mark before a command"),
     (Seen::MarkRemark, "a byte-order mark before a remark"),
     (Seen::MarkBlank, "a byte-order mark before blanks or nothing"),
     (Seen::MarkNotUnderstood, "a byte-order mark before what is not understood"),
     (Seen::MarkTooLong, "a byte-order mark before a line too long"),
     (Seen::RemarkAfterBlanks, "a remark after blanks"),
+    (Seen::RemarkBehindCommand, "a remark behind a command"),
     (Seen::Quit, "quit"),
     (Seen::Exit, "exit"),
     (Seen::NumbersLine, "numbers"),

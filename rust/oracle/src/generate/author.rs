@@ -42,15 +42,17 @@ impl Author {
         self.lines.push(line);
     }
 
-    /// The same line with a byte-order mark before it, or other blanks before, between, after.
+    /// The same line with a byte-order mark before it, other blanks before, between, after, or a
+    /// remark behind it.
     fn disguised(&mut self, line: Vec<u8>) -> Vec<u8> {
         let count = self.random.between(1, 3);
         let blanks: Vec<u8> = (0..count).map(|_| self.random.pick(b" \t,\r")).collect();
-        match self.random.below(6) {
+        match self.random.below(8) {
             0 | 1 => [MARK, &line[..]].concat(),
             2 => [MARK, &blanks[..], &line[..]].concat(),
             3 => [&blanks[..], &line[..]].concat(),
             4 => [&line[..], &blanks[..]].concat(),
+            5 | 6 => [&line[..], &blanks[..], &noise::remark(&mut self.random)[..]].concat(),
             _ => line.split(|&byte| byte == b' ').collect::<Vec<_>>().join(&blanks[..]),
         }
     }

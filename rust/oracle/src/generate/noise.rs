@@ -1,12 +1,13 @@
 //! Lines that are not understood, and lines at the edges of being understood.
 
 use super::author::Author;
+use super::random::Random;
 use crate::desk::SEATS;
 use crate::script::MARK;
 use crate::words::FORMS;
 
 /// Lines whole as they stand; none of them asks for `help` or ends the script.
-const ODD: [&[u8]; 79] = [
+const ODD: [&[u8]; 93] = [
     b"", b" ", b"\t, \r", b"\r", b"# a remark, 1 2 3", b"#", b"#open\r", b" # after a space", b"opne",
     b"Open", b"OPEN", b"open 1", b"open x", b"open,", b",\topen\r", b"3 3 2", b"0", b"enter",
     b"enter 1 2", b"enter -1", b"enter +1", b"enter 1.0", b"enter 0x1", b"enter 4294967296",
@@ -19,8 +20,16 @@ const ODD: [&[u8]; 79] = [
     b"\xef\xbb\xbfenter", b"\xef\xbb\xbf\xef\xbb\xbf", b"\xef\xbb\xbf\xef\xbb\xbf# twice",
     b" \xef\xbb\xbfdigest", b" \xef\xbb\xbf# none", b"\xef\xbbdigest", b"\xef\xbb", b"\xef",
     b"\xbb\xbfdigest", b"\xfe\xffdigest", b"digest\xef\xbb\xbf", b"digest \xef\xbb\xbf", b"exit 0",
-    b"exit x", b"Exit", b"exits", b"exi", b"exit\x00", b"exit #", b"quit #", b"work", b"work x",
-    b"work 4294967296",
+    b"exit x", b"Exit", b"exits", b"exi", b"exit\x00", b"exit#", b"quit#", b"work", b"work x",
+    b"work 4294967296", b"enter 3 # our clinic", b"digest #", b"digest#", b"digest# #", b"enter # 3",
+    b"turns 0,#,1", b"turns 0\t##", b"turns 0\r# 1 # 2", b"turns 0#", b"turns 0# 1", b"turns 0#1 # 2",
+    b"turns 0\x0b# none", b"digest \xef\xbb\xbf# none", b"digest # \xff\x00\x80",
+];
+
+/// What a remark may hold after its `#`: all that would be something if it were not passed over.
+const REMARKED: [&[u8]; 13] = [
+    b" ", b",", b"\t", b"\r", b"#", b" #", b"3", b" 0", b" 65536", b" our clinic", b"quit", b"\xef\xbb\xbf",
+    b"\xff\x00",
 ];
 
 pub fn noise(author: &mut Author) {
@@ -39,7 +48,8 @@ pub fn odd(author: &mut Author) {
     author.line(line);
 }
 
-/// A command with one number too many, one too few, or numbers around the limits of the tables.
+/// A command with one number too many, one too few, or numbers around the limits of the tables; now
+/// and then a `#` behind it, which is a remark or, with no blank before it, none.
 fn numbers_at_edge(author: &mut Author) {
     let form = author.random.pick(&FORMS);
     let mut parts = form.split(' ');
@@ -69,14 +79,29 @@ fn numbers_at_edge(author: &mut Author) {
         ]);
         text.push_str(&format!(" {}", number));
     }
+    // Behind what stands already: put between, it could leave `help`, `quit` or long work.
+    if author.random.once_in(3) {
+        let blank = author.random.pick(&[&b""[..], b" ", b"\t", b",", b"\r"]);
+        let remark = remark(&mut author.random);
+        return author.line([text.as_bytes(), blank, &remark[..]].concat());
+    }
     author.line(text);
+}
+
+/// A remark from its `#` on; with no blank before it, it is none.
+pub fn remark(random: &mut Random) -> Vec<u8> {
+    let mut remark = b"#".to_vec();
+    for _ in 0..random.below(6) {
+        remark.extend(random.pick(&REMARKED));
+    }
+    remark
 }
 
 /// Lines at the edge of 65,536 bytes and lists at the edges of 64 sizes and 9,000 numbers.
 pub fn long(author: &mut Author) {
     let length = author.random.pick(&[65_535, 65_536, 65_537, 70_000]);
     // A byte-order mark counts.
-    let begin = author.random.pick(&[&b"digest"[..], b"#", b" ", b" # "]);
+    let begin = author.random.pick(&[&b"digest"[..], b"digest #", b"#", b" ", b" # "]);
     let mut line = [MARK, begin].concat();
     line.resize(length, b' ');
     author.line(line);
