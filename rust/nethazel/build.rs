@@ -95,9 +95,14 @@ fn repository_archive() -> Result<PathBuf, Missing> {
     Ok(archive)
 }
 
-fn outside_the_repository() -> Missing {
-    // A file that is nowhere has cargo look again each time: not every cargo sees that its `[env]` names an archive now.
+/// A file that is nowhere has cargo look again each time: what is missing may be there then, and not every cargo sees that
+/// its `[env]` names an archive now.
+fn look_again() {
     println!("cargo:rerun-if-changed=no archive yet");
+}
+
+fn outside_the_repository() -> Missing {
+    look_again();
     Missing {
         name: "nethazel outside its repository needs NETHAZEL_ARCHIVE to name the archive".to_string(),
         words: Some("this copy of nethazel stands outside its repository and has no archive; name one by \
@@ -125,6 +130,7 @@ fn make(repository: &Path) -> Result<(), Missing> {
 }
 
 fn without_rt() -> Missing {
+    look_again();
     Missing {
         name: "nethazel has no archive that is up to date, and no rt to make it".to_string(),
         words: Some(

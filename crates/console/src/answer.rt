@@ -25,10 +25,10 @@ use room::obey;
 // What has become of a script's lines.
 pub struct Sitting {
     pub room: Room,
-    pub lines: u64, // so far
+    pub lines: u64, // read so far, the one being answered included
     pub answered: u64,
     pub not_understood: u64,
-    pub ended: bool, // after quit
+    pub ended: bool, // after quit or exit
 }
 
 // What a line is.

@@ -1,4 +1,4 @@
-/* Every call and every name of the header once, the header included twice, in the words that C89 and C++98 share. It is
+/* Every call of the header once, and some of its names, the header included twice, in the words that C89 and C++98 share. It is
    compiled alone, as every standard of C and C++; the calls' meaning is door.c's matter. */
 #include "nethazel.h"
 #include "nethazel.h"

@@ -23,6 +23,7 @@ struct Worked {
     portions: u64,
     stopped: bool,
     watched: bool, // by a person
+    shown: bool, // whether a line says how far it is
 }
 
 pub fn work(
@@ -48,6 +49,7 @@ pub fn work(
         portions: 0,
         stopped: false,
         watched,
+        shown: false,
     };
     let worked = reported(start, board, sizes, rules, asked.seat);
     ended(worked, sizes, asked.seat);
@@ -56,10 +58,10 @@ pub fn work(
 
 // A stop that was asked for before is none of this work's.
 fn reported(start: Worked, board: &mut [u8], sizes: &[u8], rules: &[u16], seat: u32) -> Worked {
-    report(b"working\n");
     if start.watched {
         asked_to_stop();
     }
+    report(b"working\n");
     let work = until_ready(start, board, sizes, rules, seat);
     report(b"resting\n");
     work
@@ -96,24 +98,34 @@ fn portion(work: Worked, board: &mut [u8], sizes: &[u8], rules: &[u16]) -> Worke
         portions: std::num::wrapping_add_u64(work.portions, 1),
         stopped: turned.number != 0,
         watched: work.watched,
+        shown: work.shown,
     }
 }
 
-// Shows a person every so often how far it is, and looks whether to stop.
+// Shows a person how far it is, and looks whether to stop.
 fn watch(work: Worked, sizes: &[u8], seat: u32) -> Worked {
     if !work.watched {
         return work;
     }
-    if work.portions % 8 == 0 {
-        write_over(8 < work.portions);
-        pair(record_of(work.desk, seat), sizes);
-        around(b", ", work.turns, b" turns so far\n");
-    }
-    let mut seen = work;
+    let mut seen = show(work, record_of(work.desk, seat), sizes);
     if asked_to_stop() {
         seen.stopped = true;
     }
     seen
+}
+
+// Every so often, while there is something to show.
+fn show(work: Worked, record: Seat, sizes: &[u8]) -> Worked {
+    let mut shown = work;
+    if work.portions % 8 == 0 {
+        if is_at_work(record) {
+            write_over(work.shown);
+            pair(record, sizes);
+            around(b", ", work.turns, b" turns so far\n");
+            shown.shown = true;
+        }
+    }
+    shown
 }
 
 // What was shown is a whole line, which a line editor lets through at once: one line up, and all from there on erased.
@@ -125,9 +137,7 @@ fn write_over(shown: bool) {
 
 fn ended(work: Worked, sizes: &[u8], seat: u32) {
     let record = record_of(work.desk, seat);
-    if work.watched {
-        write_over(8 <= work.portions);
-    }
+    write_over(work.shown);
     if is_at_work(record) {
         around(b"stopped: seat ", seat as u64, b" is at work: ");
         pair(record, sizes);
