@@ -1,9 +1,9 @@
--- The starts of the rules of each feature, 64 places a feature, noted in one walk over the list: for each feature, the
--- places noted, followed by those of the rules that are left, are all of them.
+-- The rules of each feature, noted in one walk over the list: in a row of 64 places where each begins, sixteen rows on its
+-- number. For each feature what is noted, followed by that of the rules that are left, is that of all.
 use Prim.Native.Nat.{ℕ, zero, suc, _+_, _-_, _*_, _≤_, _<_}
-use mathlib.Core.Path.{_≡_, refl, sym, _∙_}
+use mathlib.Core.Path.{_≡_, refl, sym, ap, _∙_}
 use mathlib.Core.Bool.{Bool, true, false, cond}
-use mathlib.Core.List.{List, [], _∷_, _++_, append-assoc, append-nil}
+use mathlib.Core.List.{List, [], _∷_, _++_, map, append-assoc, append-nil}
 use native.Mathlib.Nat.{not-suc-le-zero}
 use native.Mathlib.Numerals.{add-one, sub-one}
 use native.Mathlib.Omega.{arith}
@@ -13,20 +13,35 @@ use lib.Seq.{drop-cons, drop-drop, take-suc-set, take-set-le, drop-set-lt, drop-
 use lib.Dec.{eqb, ltb}
 use Rattle.builds.specs.Rule.{highest}
 use Rattle.builds.specs.Catalogue.{width, featuresRead, isEmpty}
-use Rattle.builds.specs.inner.Starts.{wholeRule, wholeRules, startsFrom, startsAt, AllStarts}
+use Rattle.builds.specs.inner.Starts.{wholeRule, wholeRules, testedFrom, testedAt, AllStarts}
 use Rattle.builds.proofs.WholeRule.{WholeRule, whole, both}
 
-pub record Noted (rules places counts : List ℕ) (place : ℕ) : Type 0 where
+-- what is noted of a rule: where it begins, and its number
+abbrev begins : ℕ × ℕ → ℕ
+begins t = t .0
+
+abbrev numbered : ℕ × ℕ → ℕ
+numbered t = t .1
+
+-- what stands in a row of 64 places, so much of it as is used
+abbrev inRow : ℕ → ℕ → List ℕ → List ℕ
+inRow row count places = take count (drop (row * 64) places)
+
+pub record Noted (rules places counts : List ℕ) (place number : ℕ) : Type 0 where
   pub left : ℕ
   pub within : place ≤ length rules
-  pub room : length places ≡ 1024
+  pub room : length places ≡ 2048
   pub each : length counts ≡ 16
   pub whole-rest : wholeRules left (drop place rules) ≡ true
+  pub few-rules : number + left ≤ 64
   pub few : (j : ℕ) → j < 16 → getD counts j 0 + left ≤ 64
-  pub so-far : (j : ℕ) → j < 16 → take (getD counts j 0) (drop (j * 64) places) ++ startsFrom left rules place j ≡ startsAt rules j
+  pub starts-so-far : (j : ℕ) → j < 16
+      → inRow j (getD counts j 0) places ++ map begins (testedFrom left rules place number j) ≡ map begins (testedAt rules j)
+  pub numbers-so-far : (j : ℕ) → j < 16
+      → inRow (16 + j) (getD counts j 0) places ++ map numbered (testedFrom left rules place number j) ≡ map numbered (testedAt rules j)
 
-pub none-noted : (rules places counts : List ℕ) → wholeRules 64 rules ≡ true → length places ≡ 1024 → counts ≡ replicate 16 0
-    → Noted rules places counts 0
+pub none-noted : (rules places counts : List ℕ) → wholeRules 64 rules ≡ true → length places ≡ 2048 → counts ≡ replicate 16 0
+    → Noted rules places counts 0 0
 none-noted rules places counts e room zeros =
     let nothing : (j : ℕ) → j < 16 → getD counts j 0 ≡ 0 = λ (j : ℕ) h. rw zeros (getD-replicate 16 j 0 0 h) in
     record {
@@ -35,8 +50,10 @@ none-noted rules places counts e room zeros =
       room = room;
       each = rw zeros (length-replicate {A = ℕ} 16 0);
       whole-rest = e;
+      few-rules = omega arith;
       few = λ (j : ℕ) h. omega (arith, nothing j h);
-      so-far = λ (j : ℕ) h. rw (nothing j h);
+      starts-so-far = λ (j : ℕ) h. rw (nothing j h);
+      numbers-so-far = λ (j : ℕ) h. rw (nothing j h);
     }
 
 not-empty : (list : List ℕ) (place : ℕ) → place < length list → isEmpty (drop place list) ≡ false
@@ -60,39 +77,45 @@ rule-here (suc n) rules place h e =
       whole-after = rw (sub-one, ← drop-drop (width (drop place rules)) place rules) (here .1);
     }
 
-starts-step : (left : ℕ) (rules : List ℕ) (place j : ℕ) → 1 ≤ left → place < length rules
-    → startsFrom left rules place j
+tested-step : (left : ℕ) (rules : List ℕ) (place number j : ℕ) → 1 ≤ left → place < length rules
+    → testedFrom left rules place number j
     ≡ cond (eqb (highest (featuresRead (drop place rules))) j)
-    (place ∷ startsFrom (left - 1) rules (place + width (drop place rules)) j)
-    (startsFrom (left - 1) rules (place + width (drop place rules)) j)
-unfolding startsFrom
-starts-step zero rules place j some h = absurd (not-suc-le-zero some)
-starts-step (suc n) rules place j some h = rw (not-empty rules place h, sub-one)
+    ((place, number) ∷ testedFrom (left - 1) rules (place + width (drop place rules)) (suc number) j)
+    (testedFrom (left - 1) rules (place + width (drop place rules)) (suc number) j)
+unfolding testedFrom
+tested-step zero rules place number j some h = absurd (not-suc-le-zero some)
+tested-step (suc n) rules place number j some h = rw (not-empty rules place h, sub-one)
 
-starts-end : (left : ℕ) (rules : List ℕ) (place j : ℕ) → length rules ≤ place → startsFrom left rules place j ≡ []
-unfolding startsFrom
-starts-end zero rules place j h = refl
-starts-end (suc n) rules place j h = rw (drop-of-length-le rules h)
+tested-end : (left : ℕ) (rules : List ℕ) (place number j : ℕ) → length rules ≤ place → testedFrom left rules place number j ≡ []
+unfolding testedFrom
+tested-end zero rules place number j h = refl
+tested-end (suc n) rules place number j h = rw (drop-of-length-le rules h)
 
--- to write into the places of one feature leaves those of another as they were
-module _ (places : List ℕ) (feature j i count place : ℕ) (other : j ≡ feature → ⊥) (low : i < 64) (few : count ≤ 64) where
-  others-by : (before : Bool) → ltb j feature ≡ before
-      → take count (drop (j * 64) (set places (feature * 64 + i) place)) ≡ take count (drop (j * 64) places)
+-- to write into one row leaves another as it was
+module _ (places : List ℕ) (written row i count x : ℕ) (other : row ≡ written → ⊥) (low : i < 64) (few : count ≤ 64) where
+  others-by : (before : Bool) → ltb row written ≡ before → inRow row count (set places (written * 64 + i) x) ≡ inRow row count places
   others-by true t =
-      let less : j < feature = ltb-true j feature t in
-      let past : feature * 64 + i ≡ j * 64 + ((feature - j) * 64 + i) = omega arith in
-      let out : count ≤ (feature - j) * 64 + i = omega arith in
-      rw (past, drop-set-add (j * 64) places ((feature - j) * 64 + i) place) (take-set-le count (drop (j * 64) places) ((feature - j) * 64 + i) place out)
+      let less : row < written = ltb-true row written t in
+      let past : written * 64 + i ≡ row * 64 + ((written - row) * 64 + i) = omega arith in
+      let out : count ≤ (written - row) * 64 + i = omega arith in
+      rw (past, drop-set-add (row * 64) places ((written - row) * 64 + i) x) (take-set-le count (drop (row * 64) places) ((written - row) * 64 + i) x out)
   others-by false t =
-      let most : feature ≤ j = ltb-false j feature t in
-      let less : feature < j = omega (arith, other) in
-      let before : feature * 64 + i < j * 64 = omega arith in
-      rw (drop-set-lt (j * 64) places (feature * 64 + i) place before)
+      let most : written ≤ row = ltb-false row written t in
+      let less : written < row = omega (arith, other) in
+      let before : written * 64 + i < row * 64 = omega arith in
+      rw (drop-set-lt (row * 64) places (written * 64 + i) x before)
 
-  others-stay : take count (drop (j * 64) (set places (feature * 64 + i) place)) ≡ take count (drop (j * 64) places)
-  others-stay = others-by (ltb j feature) refl
+  others-stay : inRow row count (set places (written * 64 + i) x) ≡ inRow row count places
+  others-stay = others-by (ltb row written) refl
 
-module _ {rules places counts : List ℕ} {place : ℕ} (n : Noted rules places counts place) (h : place < length rules) where
+-- and to write at its end makes it one longer
+one-more : (places : List ℕ) (row count x : ℕ) → row * 64 + count < length places
+    → inRow row (suc count) (set places (row * 64 + count) x) ≡ inRow row count places ++ x ∷ []
+one-more places row count x l =
+    let room : count < length (drop (row * 64) places) = omega (arith, length-drop (row * 64) places) in
+    rw (drop-set-add (row * 64) places count x, take-suc-set (drop (row * 64) places) count x room)
+
+module _ {rules places counts : List ℕ} {place number : ℕ} (n : Noted rules places counts place number) (h : place < length rules) where
   here : RuleHere (n .left) rules place
   here = rule-here (n .left) rules place h (n .whole-rest)
 
@@ -102,15 +125,28 @@ module _ {rules places counts : List ℕ} {place : ℕ} (n : Noted rules places 
   pub below-64 : (j : ℕ) → j < 16 → getD counts j 0 < 64
   below-64 j l = omega (arith, n .few j l, here .some-left)
 
+  pub number-below-64 : number < 64
+  number-below-64 = omega (arith, n .few-rules, here .some-left)
+
   abbrev next-place : ℕ
   next-place = place + width (drop place rules)
 
-  -- the walk goes on to the next rule, if of each feature those noted then, followed by those left, are the same as before
+  abbrev before : ℕ → List (ℕ × ℕ)
+  before j = testedFrom (n .left) rules place number j
+
+  abbrev after : ℕ → List (ℕ × ℕ)
+  after j = testedFrom (n .left - 1) rules next-place (suc number) j
+
+  -- what a feature's row holds then, followed by what is left, is the same as before
+  abbrev Same : (ℕ × ℕ → ℕ) → ℕ → List ℕ → List ℕ → ℕ → Type 0
+  Same part row more noted j =
+      inRow row (getD noted j 0) more ++ map part (after j) ≡ inRow row (getD counts j 0) places ++ map part (before j)
+
+  -- the walk goes on to the next rule, if that is so of each row
   go-on : (more noted : List ℕ) → length more ≡ length places → length noted ≡ length counts
       → ((j : ℕ) → j < 16 → getD noted j 0 ≤ getD counts j 0 + 1)
-      → ((j : ℕ) → j < 16 → take (getD noted j 0) (drop (j * 64) more) ++ startsFrom (n .left - 1) rules next-place j
-      ≡ take (getD counts j 0) (drop (j * 64) places) ++ startsFrom (n .left) rules place j)
-      → Noted rules more noted next-place
+      → ((j : ℕ) → j < 16 → Same begins j more noted j × Same numbered (16 + j) more noted j)
+      → Noted rules more noted next-place (suc number)
   go-on more noted room each few same =
       record {
         left = n .left - 1;
@@ -118,24 +154,34 @@ module _ {rules places counts : List ℕ} {place : ℕ} (n : Noted rules places 
         room = room ∙ n .room;
         each = each ∙ n .each;
         whole-rest = here .whole-after;
+        few-rules = omega (arith, here .some-left, n .few-rules);
         few = λ (j : ℕ) l. omega (arith, here .some-left, few j l, n .few j l);
-        so-far = λ (j : ℕ) l. same j l ∙ n .so-far j l;
+        starts-so-far = λ (j : ℕ) l. same j l .0 ∙ n .starts-so-far j l;
+        numbers-so-far = λ (j : ℕ) l. same j l .1 ∙ n .numbers-so-far j l;
       }
 
-  not-here : (j : ℕ) → (highest (featuresRead (drop place rules)) ≡ j → ⊥)
-      → startsFrom (n .left) rules place j ≡ startsFrom (n .left - 1) rules next-place j
-  not-here j e = rw (ne-eqb (highest (featuresRead (drop place rules))) j e) at (starts-step (n .left) rules place j (here .some-left) h)
+  not-here : (j : ℕ) → (highest (featuresRead (drop place rules)) ≡ j → ⊥) → before j ≡ after j
+  not-here j e = rw (ne-eqb (highest (featuresRead (drop place rules))) j e) at (tested-step (n .left) rules place number j (here .some-left) h)
 
   module _ (feature count : ℕ) (known : feature < 16) (count-is : count ≡ getD counts feature 0)
       (is-highest : highest (featuresRead (drop place rules)) ≡ feature) where
+    abbrev half : List ℕ
+    half = set places (feature * 64 + count) place
+
     abbrev more : List ℕ
-    more = set places (feature * 64 + count) place
+    more = set half ((16 + feature) * 64 + count) number
 
     abbrev noted : List ℕ
     noted = set counts feature (count + 1)
 
-    count-here : getD noted feature 0 ≡ count + 1
-    count-here = getD-set-same counts feature (count + 1) 0 (omega (arith, n .each))
+    low : count < 64
+    low = omega (arith, count-is, below-64 feature known)
+
+    half-length : length half ≡ 2048
+    half-length = length-set places (feature * 64 + count) place ∙ n .room
+
+    count-here : getD noted feature 0 ≡ suc count
+    count-here = getD-set-same counts feature (count + 1) 0 (omega (arith, n .each)) ∙ add-one count
 
     count-other : (j : ℕ) → (j ≡ feature → ⊥) → getD noted j 0 ≡ getD counts j 0
     count-other j e = getD-set-other counts feature j (count + 1) 0 e
@@ -144,36 +190,64 @@ module _ {rules places counts : List ℕ} {place : ℕ} (n : Noted rules places 
     few-by j true t = let e : j ≡ feature = eqb-true j feature t in rw (e, count-here, count-is) (omega arith)
     few-by j false t = rw (count-other j (eqb-false j feature t)) (omega arith)
 
-    so-far-here : take (getD noted feature 0) (drop (feature * 64) more) ++ startsFrom (n .left - 1) rules next-place feature
-        ≡ take (getD counts feature 0) (drop (feature * 64) places) ++ startsFrom (n .left) rules place feature
-    so-far-here =
-        let room : count < length (drop (feature * 64) places) = omega (arith, length-drop (feature * 64) places, n .room, below-64 feature known) in
-        let step = rw (eq-eqb (highest (featuresRead (drop place rules))) feature is-highest) at (starts-step (n .left) rules place feature (here .some-left) h) in
-        rw (step, count-here, ← count-is, drop-set-add (feature * 64) places count place, add-one count, take-suc-set (drop (feature * 64) places) count place room, append-assoc)
+    left-here : before feature ≡ (place, number) ∷ after feature
+    left-here = rw (eq-eqb (highest (featuresRead (drop place rules))) feature is-highest) at (tested-step (n .left) rules place number feature (here .some-left) h)
 
-    so-far-by : (j : ℕ) (same : Bool) → j < 16 → eqb j feature ≡ same
-        → take (getD noted j 0) (drop (j * 64) more) ++ startsFrom (n .left - 1) rules next-place j
-        ≡ take (getD counts j 0) (drop (j * 64) places) ++ startsFrom (n .left) rules place j
-    so-far-by j true l t = rw (eqb-true j feature t) so-far-here
-    so-far-by j false l t =
+    row-starts : inRow feature (suc count) more ≡ inRow feature count places ++ place ∷ []
+    row-starts =
+        others-stay half (16 + feature) feature count (suc count) number (λ e. absurd (omega arith)) low (omega (arith, low))
+        ∙ one-more places feature count place (omega (arith, n .room, low))
+
+    row-numbers : inRow (16 + feature) (suc count) more ≡ inRow (16 + feature) count places ++ number ∷ []
+    row-numbers =
+        one-more half (16 + feature) count number (omega (arith, half-length, low))
+        ∙ ap (λ (row : List ℕ). row ++ number ∷ [])
+        (others-stay places feature (16 + feature) count count place (λ e. absurd (omega arith)) low (omega (arith, low)))
+
+    same-here : Same begins feature more noted feature × Same numbered (16 + feature) more noted feature
+    same-here = (
+      rw (count-here, row-starts, ← count-is, left-here, append-assoc) refl,
+      rw (count-here, row-numbers, ← count-is, left-here, append-assoc) refl,
+    )
+
+    stays : (row j : ℕ) → row < 32 → (row ≡ feature → ⊥) → (row ≡ 16 + feature → ⊥) → j < 16 → inRow row (getD counts j 0) more ≡ inRow row (getD counts j 0) places
+    stays row j l a b k =
+        let few : getD counts j 0 ≤ 64 = omega (arith, n .few j k) in
+        others-stay half (16 + feature) row count (getD counts j 0) number b low few
+        ∙ others-stay places feature row count (getD counts j 0) place a low few
+
+    same-by : (j : ℕ) (same : Bool) → j < 16 → eqb j feature ≡ same → Same begins j more noted j × Same numbered (16 + j) more noted j
+    same-by j true l t = rw (eqb-true j feature t) same-here
+    same-by j false l t =
         let e : j ≡ feature → ⊥ = eqb-false j feature t in
-        rw (count-other j e, not-here j (λ s. e (sym s ∙ is-highest)), others-stay places feature j count (getD counts j 0) place e (omega (arith, below-64 feature known)) (omega (arith, n .few j l)))
+        let rest = not-here j (λ s. e (sym s ∙ is-highest)) in (
+          rw (count-other j e, rest, stays j j (omega arith) e (λ s. absurd (omega arith)) l) refl,
+          rw (count-other j e, rest, stays (16 + j) j (omega arith) (λ s. absurd (omega arith)) (λ s. e (omega arith)) l) refl,
+        )
 
-    pub note : Noted rules more noted next-place
-    note = go-on more noted (length-set places (feature * 64 + count) place) (length-set counts feature (count + 1))
+    pub note : Noted rules more noted next-place (suc number)
+    note =
+        go-on more noted (length-set half ((16 + feature) * 64 + count) number ∙ length-set places (feature * 64 + count) place)
+        (length-set counts feature (count + 1))
         (λ (j : ℕ) l. few-by j (eqb j feature) refl)
-        (λ (j : ℕ) l. so-far-by j (eqb j feature) l refl)
+        (λ (j : ℕ) l. same-by j (eqb j feature) l refl)
 
   -- a rule whose highest feature is none of the sixteen is tested nowhere
-  pub pass-over : 16 ≤ highest (featuresRead (drop place rules)) → Noted rules places counts next-place
-  pass-over e = go-on places counts refl refl (λ (j : ℕ) l. omega arith) (λ (j : ℕ) l. rw (not-here j (λ s. absurd (omega arith))))
+  pub pass-over : 16 ≤ highest (featuresRead (drop place rules)) → Noted rules places counts next-place (suc number)
+  pass-over e =
+      go-on places counts refl refl (λ (j : ℕ) l. omega arith)
+      (λ (j : ℕ) l. let rest = not-here j (λ s. absurd (omega arith)) in (rw rest refl, rw rest refl))
 
-pub all-noted : {rules places counts : List ℕ} {place : ℕ} → Noted rules places counts place → length rules ≤ place
+pub all-noted : {rules places counts : List ℕ} {place number : ℕ} → Noted rules places counts place number → length rules ≤ place
     → AllStarts rules places counts
-all-noted {rules} {places} {counts} {place} n h =
+all-noted {rules} {places} {counts} {place} {number} n h =
     record {
       room = n .room;
       each = n .each;
       few = λ (j : ℕ) l. omega (arith, n .few j l);
-      are-starts = λ (j : ℕ) l. sym (rw (starts-end (n .left) rules place j h) (append-nil (take (getD counts j 0) (drop (j * 64) places)))) ∙ n .so-far j l;
+      are-starts = λ (j : ℕ) l.
+          sym (rw (tested-end (n .left) rules place number j h) (append-nil (inRow j (getD counts j 0) places))) ∙ n .starts-so-far j l;
+      are-numbers = λ (j : ℕ) l.
+          sym (rw (tested-end (n .left) rules place number j h) (append-nil (inRow (16 + j) (getD counts j 0) places)))
+          ∙ n .numbers-so-far j l;
     }

@@ -15,6 +15,7 @@ pub mod Format
 pub mod FaultMet
 pub mod Words
 pub mod Remarks
+pub mod FirstBroken
 pub mod RulesByFeature
 pub mod Options
 pub mod Padded

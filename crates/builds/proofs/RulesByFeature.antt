@@ -4,14 +4,15 @@
 use Prim.Native.Nat.{ℕ, _≤_, _<_}
 use mathlib.Core.Path.{_≡_, refl, sym, ap₂, _∙_}
 use mathlib.Core.Logic.{_↔_}
-use mathlib.Core.Bool.{Bool, true, false, cond, _&&_, and-eq-true-iff}
+use mathlib.Core.Bool.{Bool, true, false, cond, not, _&&_, and-eq-true-iff}
 use mathlib.Core.List.{List, [], _∷_, map}
+use mathlib.Core.Option.{Option}
 use native.Mathlib.Omega.{arith}
 use lib.ListN.{length}
 use lib.Dec.{eqb}
 use borrow.Author.Tests.{eqb-true, eqb-false}
 use Rattle.builds.specs.Lists.{Every}
-use Rattle.builds.specs.Rule.{Rule, optionAt, satisfies, satisfiesAll, highest, rulesAt, passes}
+use Rattle.builds.specs.Rule.{Rule, optionAt, satisfies, satisfiesAll, highest, breaks, oneOn, firstBroken, isNone, passes}
 use Rattle.builds.specs.Catalogue.{Catalogue, rulesOf}
 use Rattle.builds.specs.Fault.{faultOf}
 use Rattle.builds.proofs.Every.{every-head, every-tail, every-weaken}
@@ -36,15 +37,24 @@ unfolding satisfies
 satisfies-agree j build other rule same h = rw (options-agree j build other (rule .features) same h)
 
 pub none-tested : (j : ℕ) (build : List ℕ) → passes [] j build ≡ true
-unfolding passes rulesAt satisfiesAll
+unfolding passes firstBroken
 none-tested j build = refl
+
+-- another rule in front changes the number of the one that is broken, but not whether one is
+still-none : (found : Option ℕ) → isNone (oneOn found) ≡ isNone found
+still-none Option.none = refl
+still-none (Option.some number) = refl
 
 -- the test of one more rule
 passes-more : (j : ℕ) (build : List ℕ) (rule : Rule) (rules : List Rule) (tested : Bool) → eqb (highest (rule .features)) j ≡ tested
     → passes (rule ∷ rules) j build ≡ cond tested (satisfies build rule && passes rules j build) (passes rules j build)
-unfolding passes rulesAt satisfiesAll
-passes-more j build rule rules true e = rw e
-passes-more j build rule rules false e = rw e
+unfolding passes firstBroken
+passes-more j build rule rules true e = rw e (go (satisfies build rule))
+  where
+    go : (t : Bool) → isNone (cond (not t) (Option.some 0) (oneOn (firstBroken rules j build))) ≡ t && isNone (firstBroken rules j build)
+    go true = still-none (firstBroken rules j build)
+    go false = refl
+passes-more j build rule rules false e = rw e (still-none (firstBroken rules j build))
 
 pub passes-agree : (rules : List Rule) (j : ℕ) (build other : List ℕ) → AgreeTo j build other
     → passes rules j build ≡ passes rules j other

@@ -1,7 +1,8 @@
 -- What a rule is and what it means. A build is the list of its options, that of feature 0 first.
-use Prim.Native.Nat.{ℕ, max}
-use mathlib.Core.Bool.{Bool, true, false, cond, _&&_, _||_}
+use Prim.Native.Nat.{ℕ, suc, max}
+use mathlib.Core.Bool.{Bool, true, false, cond, not, _&&_, _||_}
 use mathlib.Core.List.{List, [], _∷_, map, foldr}
+use mathlib.Core.Option.{Option, none, some}
 use lib.ListN.{getD}
 use lib.Dec.{eqb}
 
@@ -37,11 +38,25 @@ satisfiesAll build (rule ∷ rules) = satisfies build rule && satisfiesAll build
 unfoldable pub highest : List ℕ → ℕ
 highest features = foldr max 0 features
 
--- the rules that are tested when an option is placed at feature j
-unfoldable pub rulesAt : ℕ → List Rule → List Rule
-rulesAt j [] = []
-rulesAt j (rule ∷ rules) = cond (eqb (highest (rule .features)) j) (rule ∷ rulesAt j rules) (rulesAt j rules)
+-- a rule that is tested when an option is placed at feature j, the highest-numbered of its own, and that what is placed breaks
+abbrev pub breaks : Rule → ℕ → List ℕ → Bool
+breaks rule j placed = eqb (highest (rule .features)) j && not (satisfies placed rule)
 
--- what is placed up to feature j passes the test there when it breaks none of those rules
+-- the number of a rule in a list with one more in front
+abbrev pub oneOn : Option ℕ → Option ℕ
+oneOn none = none
+oneOn (some number) = some (suc number)
+
+-- The test of an option placed at feature j: none, or the least number of a rule that is tested there and that what is placed
+-- breaks. Rules are numbered from 0 through the whole list.
+unfoldable pub firstBroken : List Rule → ℕ → List ℕ → Option ℕ
+firstBroken [] j placed = none
+firstBroken (rule ∷ rules) j placed = cond (breaks rule j placed) (some 0) (oneOn (firstBroken rules j placed))
+
+-- passed: none is broken
+abbrev pub isNone : Option ℕ → Bool
+isNone none = true
+isNone (some number) = false
+
 unfoldable pub passes : List Rule → ℕ → List ℕ → Bool
-passes rules j placed = satisfiesAll placed (rulesAt j rules)
+passes rules j placed = isNone (firstBroken rules j placed)

@@ -12,7 +12,7 @@ use Rattle.search.specs.declared.State.the-variants.{Closed}
 use Rattle.search.specs.Bits.{hasBit, bitsSet}
 use Rattle.runs.specs.declared.Asking.the-variants.{Read}
 use Rattle.runs.specs.declared.Reading.{Reading}
-use Rattle.runs.specs.declared.Reading.the-variants.{Options, Alternatives, Example}
+use Rattle.runs.specs.declared.Reading.the-variants.{Options, Alternatives, Example, RanInto}
 use Rattle.runs.specs.Room.{Room, seatAt}
 use Rattle.runs.specs.Call.{asks, Answer}
 use Rattle.runs.specs.RefusalTable.{refusal, openRefusal}
@@ -37,6 +37,7 @@ module _ (catalogue : Catalogue) (board : List ℕ) where
       masks = replicate 16 0;
       trial = replicate 16 255;
       alternatives = replicate 16 0;
+      broken = 255;
     });
     next = 0;
   }
@@ -49,10 +50,15 @@ module _ (catalogue : Catalogue) (board : List ℕ) where
 
 -- a mask, and how many bits are set in it, literally
 abbrev maskOnly : ℕ → Answer
-maskOnly mask = record { number = 0; mask = mask; count = sum (map (λ (a : ℕ). cond (hasBit mask a) 1 0) (countFrom 0 16)); bytes = []; made = 0; working = false }
+maskOnly mask =
+    let count = sum (map (λ (a : ℕ). cond (hasBit mask a) 1 0) (countFrom 0 16)) in
+    record { number = 0; mask = mask; count = count; bytes = []; made = 0; working = false; rule = 0 }
 
 abbrev bytesAnswer : List ℕ → Answer
-bytesAnswer bytes = record { number = 0; mask = 0; count = 0; bytes = bytes; made = 0; working = false }
+bytesAnswer bytes = record { number = 0; mask = 0; count = 0; bytes = bytes; made = 0; working = false; rule = 0 }
+
+abbrev ruleOnly : ℕ → Answer
+ruleOnly rule = record { number = 0; mask = 0; count = 0; bytes = []; made = 0; working = false; rule = rule }
 
 module _ (catalogue : Catalogue) (room : Room) (c : ℕ) where
   -- a reading that is answered, and where it stands
@@ -86,6 +92,11 @@ module _ (catalogue : Catalogue) (room : Room) (c : ℕ) where
       let option : a < 16 = omega (arith, rows .option-below refl, b .size-at-most-16) in
       ap (λ (o : Outcome). o .answer) (perform-accepted catalogue (asks c (Read (Example i a))) room zero)
       ∙ ap bytesAnswer (sym (example-on-board (room .board) (call .checks .board-length) (call .seat-below) (b .feature-below-16) option))
+
+  pub rule-answered : answered RanInto .number ≡ 0 → answered RanInto ≡ ruleOnly (seatAt (room .desk) c .broken)
+  unfolding done
+  rule-answered e =
+      ap (λ (o : Outcome). o .answer) (perform-accepted catalogue (asks c (Read RanInto)) room (not-refused RanInto e))
 
   pub reading-stays : (reading : Reading) → perform catalogue (asks c (Read reading)) room .room ≡ room
   unfolding done

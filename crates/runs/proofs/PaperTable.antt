@@ -100,8 +100,8 @@ module _ (catalogue : Catalogue) where
         asked c asking (omega arith) (closed-given (catalogue .sizes) (seatAt (room .desk) c) asking other s)
     given e (Sentence.seat-open {c} s) =
         asked c Enter (omega arith) (given-32 _ (catalogue .sizes) (seatAt (room .desk) c) 0 0 refl s)
-    given e (Sentence.seat-at-work {c} {asking} {p} not-enter not-leave s) =
-        asked c asking (omega arith) (work-given (catalogue .sizes) (seatAt (room .desk) c) asking not-enter not-leave (p, s))
+    given e (Sentence.seat-at-work {c} {asking} {p} not-enter not-leave not-ran-into s) =
+        asked c asking (omega arith) (work-given (catalogue .sizes) (seatAt (room .desk) c) asking not-enter not-leave not-ran-into (p, s))
     given e (Sentence.no-such-feature {c} {i} {asking} named l) =
         asked c asking (omega arith) (feature-given (catalogue .sizes) (seatAt (room .desk) c) named l)
     given e (Sentence.no-such-option {c} {i} {a} {asking} named l) =

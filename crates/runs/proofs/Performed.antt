@@ -5,7 +5,7 @@ use mathlib.Core.Path.{_≡_, refl, ap}
 use mathlib.Core.List.{List}
 use Rattle.builds.specs.Catalogue.{Catalogue}
 use Rattle.search.specs.Clinic.{Clinic}
-use Rattle.runs.specs.declared.Reading.the-variants.{Options, Alternatives, Example}
+use Rattle.runs.specs.declared.Reading.the-variants.{Options, Alternatives, Example, RanInto}
 use Rattle.runs.specs.Room.{Room, seatAt, clinicAt, freshDesk, emptyBoard}
 use Rattle.runs.specs.Call.{Call, asks, turns, refused, plain}
 use Rattle.runs.specs.RefusalTable.{refusal, openRefusal}
@@ -26,6 +26,7 @@ kind-number leaves clinic = refl
 kind-number (reads (Options i)) clinic = refl
 kind-number (reads (Alternatives i)) clinic = refl
 kind-number (reads (Example i a)) clinic = refl
+kind-number (reads RanInto) clinic = refl
 
 module _ (catalogue : Catalogue) where
   done-number : (call : Call) (room : Room) → done catalogue call room .answer .number ≡ 0

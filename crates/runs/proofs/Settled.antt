@@ -7,13 +7,14 @@ use mathlib.Core.List.{List}
 use Rattle.builds.specs.Catalogue.{Catalogue}
 use Rattle.runs.specs.declared.answers.Changed.{Changed}
 use Rattle.runs.specs.declared.answers.Left.{Left}
+use Rattle.runs.specs.declared.answers.Ran.{Ran}
 use Rattle.runs.specs.declared.answers.Turned.{Turned}
 use Rattle.runs.specs.declared.Asking.{Asking}
 use Rattle.runs.specs.declared.Asking.the-variants.{Read}
-use Rattle.runs.specs.declared.Reading.the-variants.{Options, Example}
+use Rattle.runs.specs.declared.Reading.the-variants.{Options, Example, RanInto}
 use Rattle.runs.specs.Room.{Room}
 use Rattle.runs.specs.Call.{asks, turns}
-use Rattle.runs.specs.Answers.{ChangesTo, ReadsAs, TurnsTo, exampleBegins, BytesAre, BeginsAt, NumberIs}
+use Rattle.runs.specs.Answers.{ChangesTo, ReadsAs, RanAs, TurnsTo, exampleBegins, BytesAre, BeginsAt, NumberIs}
 use Rattle.runs.specs.Perform.{Outcome, perform, opening}
 
 -- of a result that a contract speaks of alone, and of a result with the board at exit
@@ -36,6 +37,9 @@ changedIn outcome = record { number = outcome .answer .number; desk = outcome .r
 abbrev leftIn : Outcome → Left
 leftIn outcome = record { number = outcome .answer .number; mask = outcome .answer .mask; count = outcome .answer .count }
 
+abbrev ranIn : Outcome → Ran
+ranIn outcome = record { number = outcome .answer .number; rule = outcome .answer .rule }
+
 abbrev turnedIn : Outcome → Turned
 turnedIn outcome = record {
   number = outcome .answer .number;
@@ -51,6 +55,9 @@ module _ (outcome : Outcome) where
   one-reading : (room : Room) → Settled (ReadsAs outcome room)
   one-reading room r₁ r₂ e₁ e₂ = ap leftIn (e₁ ∙ sym e₂)
 
+  one-rule : (room : Room) → Settled (RanAs outcome room)
+  one-rule room r₁ r₂ e₁ e₂ = ap ranIn (e₁ ∙ sym e₂)
+
   one-turning : SettledWithBoard (TurnsTo outcome)
   one-turning r₁ r₂ b₁ b₂ e₁ e₂ = let same = e₁ ∙ sym e₂ in (ap turnedIn same, ap boardAfter same)
 
@@ -64,6 +71,9 @@ module _ (catalogue : Catalogue) (room : Room) (c : ℕ) where
 
   pub options-settled : (i : ℕ) → Settled (ReadsAs (perform catalogue (asks c (Read (Options i))) room) room)
   options-settled i = one-reading (perform catalogue (asks c (Read (Options i))) room) room
+
+  pub ran-into-settled : Settled (RanAs (perform catalogue (asks c (Read RanInto)) room) room)
+  ran-into-settled = one-rule (perform catalogue (asks c (Read RanInto)) room) room
 
   module _ (i a : ℕ) where
     abbrev exampled : Outcome

@@ -49,6 +49,7 @@ lent = record {
       (ap (λ (o : Outcome). o .answer .number) same, ap (λ (o : Outcome). o .room .desk) same, ap (λ (o : Outcome). o .room .board) same);
   left-is = λ outcome room left same.
       (ap (λ (o : Outcome). o .answer .number) same, ap (λ (o : Outcome). o .answer .mask) same, ap (λ (o : Outcome). o .answer .count) same);
+  ran-is = λ outcome room ran same. (ap (λ (o : Outcome). o .answer .number) same, ap (λ (o : Outcome). o .answer .rule) same);
   turned-is = λ outcome turned board same. (
     ap (λ (o : Outcome). o .answer .number) same,
     ap (λ (o : Outcome). o .answer .made) same,

@@ -7,6 +7,7 @@ use Rattle.builds.specs.Catalogue.{Catalogue, catalogueOf}
 use Rattle.runs.specs.declared.Desk.{Desk}
 use Rattle.runs.specs.declared.answers.Changed.{Changed}
 use Rattle.runs.specs.declared.answers.Left.{Left}
+use Rattle.runs.specs.declared.answers.Ran.{Ran}
 use Rattle.runs.specs.declared.answers.Turned.{Turned}
 use Rattle.runs.specs.Room.{Room}
 use Rattle.runs.specs.Call.{Call, Answer, refused}
@@ -14,23 +15,37 @@ use Rattle.runs.specs.Perform.{Outcome, perform, performed}
 
 abbrev pub leftAnswer : Left → Answer
 leftAnswer left =
-    record { number = left .number; mask = left .mask; count = left .count; bytes = []; made = 0; working = false }
+    record { number = left .number; mask = left .mask; count = left .count; bytes = []; made = 0; working = false; rule = 0 }
+
+abbrev pub ranAnswer : Ran → Answer
+ranAnswer ran = record { number = ran .number; mask = 0; count = 0; bytes = []; made = 0; working = false; rule = ran .rule }
 
 abbrev pub turnedOutcome : Turned → List ℕ → Outcome
 turnedOutcome turned board =
     record {
-      answer = record { number = turned .number; mask = 0; count = 0; bytes = []; made = turned .made; working = turned .working };
+      answer = record {
+        number = turned .number;
+        mask = 0;
+        count = 0;
+        bytes = [];
+        made = turned .made;
+        working = turned .working;
+        rule = 0;
+      };
       room = record { desk = turned .desk; board = board };
     }
 
 -- What the contracts say: answer, desk and board at the end of a call are those of an outcome. Of open, enter, leave, choose
--- and relax; of options and alternatives, which leave desk and board as they are; of turns.
+-- and relax; of options and alternatives, and of ran_into, which leave desk and board as they are; of turns.
 abbrev pub ChangesTo : Outcome → Changed → List ℕ → Type 0
 ChangesTo outcome changed board =
     record { answer = refused (changed .number); room = record { desk = changed .desk; board = board } } ≡ outcome
 
 abbrev pub ReadsAs : Outcome → Room → Left → Type 0
 ReadsAs outcome room left = record { answer = leftAnswer left; room = room } ≡ outcome
+
+abbrev pub RanAs : Outcome → Room → Ran → Type 0
+RanAs outcome room ran = record { answer = ranAnswer ran; room = room } ≡ outcome
 
 abbrev pub TurnsTo : Outcome → Turned → List ℕ → Type 0
 TurnsTo outcome turned board = turnedOutcome turned board ≡ outcome
@@ -62,6 +77,8 @@ pub record Lent : Type 0 where
       → (changed .number ≡ outcome .answer .number) × (changed .desk ≡ outcome .room .desk) × (board ≡ outcome .room .board)
   pub left-is : (outcome : Outcome) (room : Room) (left : Left) → ReadsAs outcome room left
       → (left .number ≡ outcome .answer .number) × (left .mask ≡ outcome .answer .mask) × (left .count ≡ outcome .answer .count)
+  pub ran-is : (outcome : Outcome) (room : Room) (ran : Ran) → RanAs outcome room ran
+      → (ran .number ≡ outcome .answer .number) × (ran .rule ≡ outcome .answer .rule)
   pub turned-is : (outcome : Outcome) (turned : Turned) (board : List ℕ) → TurnsTo outcome turned board
       → (turned .number ≡ outcome .answer .number) × (turned .made ≡ outcome .answer .made)
       × (turned .working ≡ outcome .answer .working) × (turned .desk ≡ outcome .room .desk) × (board ≡ outcome .room .board)

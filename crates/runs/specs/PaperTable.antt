@@ -14,7 +14,7 @@ use Rattle.search.specs.Misfit.{Misfit}
 use Rattle.runs.specs.declared.Desk.{Desk}
 use Rattle.runs.specs.declared.Asking.{Asking}
 use Rattle.runs.specs.declared.Asking.the-variants.{Enter, Leave, Choose, Relax, Read}
-use Rattle.runs.specs.declared.Reading.the-variants.{Options, Alternatives, Example}
+use Rattle.runs.specs.declared.Reading.the-variants.{Options, Alternatives, Example, RanInto}
 use Rattle.runs.specs.Room.{Room, seatAt}
 use Rattle.runs.specs.Call.{Call, asks}
 
@@ -61,8 +61,8 @@ pub data Sentence (catalogue : Catalogue) (room : Room) : Call → ℕ → Type 
       → Sentence catalogue room (asks c asking) 31
   -- 32: seat open (enter only)
   seat-open : {c : ℕ} → (seatAt (room .desk) c .state ≡ Closed → ⊥) → Sentence catalogue room (asks c Enter) 32
-  -- 33: seat at work (not for enter, leave)
-  seat-at-work : {c : ℕ} {asking : Asking} {p : Place} → (asking ≡ Enter → ⊥) → (asking ≡ Leave → ⊥)
+  -- 33: seat at work (not for enter, leave, ran_into)
+  seat-at-work : {c : ℕ} {asking : Asking} {p : Place} → (asking ≡ Enter → ⊥) → (asking ≡ Leave → ⊥) → (asking ≡ Read RanInto → ⊥)
       → seatAt (room .desk) c .state ≡ AtWork p → Sentence catalogue room (asks c asking) 33
   -- 34: feature not in the catalogue
   no-such-feature : {c i : ℕ} {asking : Asking} → NamesFeature asking i → length (catalogue .sizes) ≤ i

@@ -11,7 +11,7 @@ use Rattle.runs.specs.declared.Desk.{Desk}
 use Rattle.runs.specs.declared.Asking.{Asking}
 use Rattle.runs.specs.declared.Asking.the-variants.{Enter, Leave, Choose, Relax, Read}
 use Rattle.runs.specs.declared.Reading.{Reading}
-use Rattle.runs.specs.declared.Reading.the-variants.{Options, Alternatives, Example}
+use Rattle.runs.specs.declared.Reading.the-variants.{Options, Alternatives, Example, RanInto}
 use Rattle.runs.specs.Room.{Room, roomOf, clinicAt, withClinic, freshDesk}
 use Rattle.runs.specs.Call.{Call, asks, turns, Answer, refused, answers}
 use Rattle.runs.specs.Turn.{served, isSome, afterTurns, turnsMade}
@@ -45,13 +45,18 @@ clinicAfter sizes asking clinic = byKind sizes (kindOf asking (clinic .seat .cho
 abbrev pub maskAnswer : ℕ → Answer
 maskAnswer mask = answers mask (bitsSet mask) [] 0 false
 
--- what an accepted asking answers, by its kind; only a ready seat is read
+-- the rule that a seat last ran into
+abbrev pub ruleAnswer : ℕ → Answer
+ruleAnswer rule = record { number = 0; mask = 0; count = 0; bytes = []; made = 0; working = false; rule = rule }
+
+-- what an accepted asking answers, by its kind
 abbrev pub answerBy : Kind → Clinic → Answer
 answerBy (posts choices) clinic = refused 0
 answerBy leaves clinic = refused 0
 answerBy (reads (Options i)) clinic = maskAnswer (getD (clinic .seat .masks) i 0)
 answerBy (reads (Alternatives i)) clinic = maskAnswer (getD (clinic .seat .alternatives) i 0)
 answerBy (reads (Example i a)) clinic = answers 0 0 (exampleIn (clinic .share) i a) 0 false
+answerBy (reads RanInto) clinic = ruleAnswer (clinic .seat .broken)
 
 -- a call's answer, with desk and board as it leaves them
 pub record Outcome : Type 0 where

@@ -14,7 +14,7 @@ use Rattle.search.specs.Look.{isClosed, isAtWork, hasChoice, isLeft}
 use Rattle.runs.specs.declared.Desk.{Desk}
 use Rattle.runs.specs.declared.Asking.{Asking}
 use Rattle.runs.specs.declared.Asking.the-variants.{Enter, Leave, Choose, Relax, Read}
-use Rattle.runs.specs.declared.Reading.the-variants.{Options, Alternatives, Example}
+use Rattle.runs.specs.declared.Reading.the-variants.{Options, Alternatives, Example, RanInto}
 use Rattle.runs.specs.Room.{Room, seatAt}
 use Rattle.runs.specs.DeskFits.{deskFits}
 use Rattle.runs.specs.Call.{Call, asks, turns}
@@ -43,6 +43,7 @@ askedRows sizes seat (Relax i) = seatRows (31 ∷ 33 ∷ 34 ∷ 38 ∷ []) sizes
 askedRows sizes seat (Read (Options i)) = seatRows (31 ∷ 33 ∷ 34 ∷ []) sizes seat i 0
 askedRows sizes seat (Read (Alternatives i)) = seatRows (31 ∷ 33 ∷ 34 ∷ 38 ∷ []) sizes seat i 0
 askedRows sizes seat (Read (Example i a)) = seatRows (31 ∷ 33 ∷ 34 ∷ 35 ∷ 37 ∷ []) sizes seat i a
+askedRows sizes seat (Read RanInto) = seatRows (31 ∷ []) sizes seat 0 0
 
 -- row 30 is for every asking; turns make none of the checks from 30 on
 abbrev pub rowsOf : List ℕ → Call → Desk → List ℕ

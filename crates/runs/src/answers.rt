@@ -14,6 +14,12 @@ pub struct Left {
     pub count: u32, // how many bits are set
 }
 
+// Of ran_into.
+pub struct Ran {
+    pub number: u8,
+    pub rule: u8, // counted from 0; 255 for none; 0 where the call is refused
+}
+
 pub struct Turned {
     pub number: u8,
     pub made: u16,

@@ -4,6 +4,7 @@ mod answers;
 
 pub use answers::Changed;
 pub use answers::Left;
+pub use answers::Ran;
 pub use answers::Turned;
 use search::Seat;
 
@@ -21,9 +22,10 @@ pub enum Asking {
     Read(Reading),
 }
 
-// What is read of a ready seat.
+// What is read of a seat: the rule that it last ran into of any open one, all else of a ready one.
 pub enum Reading {
     Options { feature: usize },
     Alternatives { feature: usize },
     Example { feature: usize, option: usize }, // answered by two functions: one gives the bytes, the other the number
+    RanInto,
 }

@@ -1,28 +1,30 @@
 -- What it means that a clinic fits the catalogue: its record does, and its arrays and share have their lengths. An open
 -- seat fits as soon as what it holds in every state does, and its state and trial do; and it goes on to when an example is
--- written and the bit set for an option of its feature, or that of an alternative where a choice is in force. A closed seat
--- fits every catalogue.
+-- written and the bit set for an option of its feature, or that of an alternative where a choice is in force, and when a rule
+-- is kept that the test named. A closed seat fits every catalogue.
 use Prim.Native.Nat.{ℕ, _^_, _<_}
 use mathlib.Core.Path.{_≡_, refl, _∙_}
 use mathlib.Core.Bool.{Bool, true, false, cond}
 use mathlib.Core.List.{List, map}
+use mathlib.Core.Option.{Option, none, some}
 use native.Mathlib.Omega.{arith}
 use lib.ListN.{length, getD, set, length-set, length-replicate, List·getD-map}
 use lib.Seq.{getD-set-same, getD-set-other}
 use lib.Pow.{pow-pos, pow-lt}
 use lib.Dec.{eqb}
 use borrow.Author.Tests.{eqb-true, eqb-false, ne-eqb}
-use Rattle.builds.specs.Catalogue.{Catalogue, sizeOf}
+use Rattle.builds.specs.Catalogue.{Catalogue, sizeOf, rulesOf}
 use Rattle.builds.proofs.Padded.{nothing-there}
 use Rattle.search.specs.declared.Seat.{Seat}
 use Rattle.search.specs.declared.Place.{Place}
 use Rattle.search.specs.declared.State.{State}
-use Rattle.search.specs.declared.State.the-variants.{Ready, AtWork}
+use Rattle.search.specs.declared.State.the-variants.{Closed, Ready, AtWork}
 use Rattle.search.specs.Bits.{withBit, withBitAt}
-use Rattle.search.specs.Clinic.{Clinic, clinicOf, nothing16, inForce, closedSeat, closedClinic, withExample, withAlternative, moved}
+use Rattle.search.specs.Clinic.{Clinic, clinicOf, nothing16, inForce, closedSeat, closedClinic, withExample, withAlternative, moved, withBroken}
+use Rattle.search.specs.Step.{brokenAfter}
 use Rattle.search.specs.RecordFits.{replaceable, depthOf, seatFits}
 use Rattle.search.proofs.Bits.{with-bit-below}
-use Rattle.search.proofs.FitsInWords.{PlaceFits, StateFits, seat-fits, fits-seat}
+use Rattle.search.proofs.FitsInWords.{PlaceFits, StateFits, BrokenFits, seat-fits, fits-seat}
 use Rattle.search.proofs.ExamplePlaces.{written-length}
 use Rattle.search.proofs.PairSteps.{same-again}
 use Rattle.search.proofs.CandidatesBelow.{ChoicesWithin}
@@ -96,23 +98,58 @@ module _ (catalogue : Catalogue) where
     place-within = λ (p : Place) e. let same : p ≡ place = cc in rw same within;
   }
 
+  -- where no rule was broken yet
   pub moved-fits : (clinic : Clinic) → HoldingFits catalogue clinic → (state : State) → OpenFits catalogue state
-      → (trial : List ℕ) → TrialFits catalogue (depthOf state) trial → ClinicFits catalogue (moved state trial clinic)
+      → (trial : List ℕ) → TrialFits catalogue (depthOf state) trial → ClinicFits catalogue (withBroken 255 (moved state trial clinic))
   moved-fits clinic holds state state-fits trial trial-fits = record {
     all-choices = holds .all-choices;
     all-masks = holds .all-masks;
     all-entries = trial-fits .all-entries;
     all-alternatives = holds .all-alternatives;
     all-bytes = holds .all-bytes;
-    fits = fits-seat catalogue (moved state trial clinic .seat) (record {
+    fits = fits-seat catalogue (withBroken 255 (moved state trial clinic) .seat) (record {
       choice-below = holds .choice-below;
       mask-below = holds .mask-below;
       alternatives-below = holds .alternatives-below;
-      state-fits = open-state (moved state trial clinic .seat) state-fits;
+      state-fits = open-state (withBroken 255 (moved state trial clinic) .seat) state-fits;
       placed-below = trial-fits .placed-below;
       nothing-from = trial-fits .nothing-from;
+      rule-within = λ broken. absurd (broken refl);
     });
   }
+
+  -- and with any rule that fits its state
+  pub with-rule : (clinic : Clinic) → ClinicFits catalogue (withBroken 255 clinic) → (broken : ℕ)
+      → BrokenFits catalogue (clinic .seat .state) broken → ClinicFits catalogue (withBroken broken clinic)
+  with-rule clinic c broken rule-fits =
+      let seat-is = seat-fits catalogue (withBroken 255 clinic .seat) (c .fits) in
+      record {
+        all-choices = c .all-choices;
+        all-masks = c .all-masks;
+        all-entries = c .all-entries;
+        all-alternatives = c .all-alternatives;
+        all-bytes = c .all-bytes;
+        fits = fits-seat catalogue (withBroken broken clinic .seat) (record {
+          choice-below = seat-is .choice-below;
+          mask-below = seat-is .mask-below;
+          alternatives-below = seat-is .alternatives-below;
+          state-fits = record {
+            closed-empty = seat-is .state-fits .closed-empty;
+            place-within = seat-is .state-fits .place-within;
+          };
+          placed-below = seat-is .placed-below;
+          nothing-from = seat-is .nothing-from;
+          rule-within = rule-fits;
+        });
+      }
+
+  -- what a step keeps fits: a rule of the list where the seat is at work, none where it is not
+  pub kept-fits : (state : State) (test : Option ℕ) (before : ℕ) → ((before ≡ 255 → ⊥) → before < length (rulesOf catalogue))
+      → ((n : ℕ) → test ≡ some n → n < length (rulesOf catalogue)) → BrokenFits catalogue state (brokenAfter state test before)
+  kept-fits Closed test before stood named broken = absurd (broken refl)
+  kept-fits Ready test before stood named broken = absurd (broken refl)
+  kept-fits (AtWork p) none before stood named broken = (refl, stood broken)
+  kept-fits (AtWork p) (some n) before stood named broken = (refl, named n refl)
 
   pub clinic-holds : (clinic : Clinic) → ClinicFits catalogue clinic → HoldingFits catalogue clinic
   clinic-holds clinic c = record {
@@ -199,5 +236,6 @@ closed-fits catalogue = record {
     };
     placed-below = nothing-placed catalogue .placed-below;
     nothing-from = nothing-placed catalogue .nothing-from;
+    rule-within = λ broken. absurd (broken refl);
   });
 }

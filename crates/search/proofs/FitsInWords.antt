@@ -1,21 +1,23 @@
 -- What it means in propositions that a record fits the catalogue, one way and back: a test of every number below a count
--- holds just where each holds, and so every choice, mask, trial entry and place is within its bounds.
+-- holds just where each holds, and so every choice, mask, trial entry and place, and the last rule broken, is within its
+-- bounds.
 use Prim.Native.Nat.{ℕ, zero, suc, _≤_, _<_, _^_}
 use mathlib.Core.Path.{_≡_, refl}
 use mathlib.Core.Logic.{⊎-elim}
-use mathlib.Core.Bool.{Bool, true, false, cond, _||_, and-eq-true-iff}
+use mathlib.Core.Bool.{Bool, true, false, cond, _&&_, _||_, and-eq-true-iff}
 use native.Mathlib.Nat.{eq-or-lt-of-le}
 use native.Mathlib.Omega.{arith}
 use lib.ListN.{length, getD}
 use lib.Dec.{ltb, eqb}
 use borrow.Author.Tests.{ltb-true, ltb-false, lt-ltb, le-ltb, eqb-true, eqb-false, eq-eqb, ne-eqb}
-use Rattle.builds.specs.Catalogue.{Catalogue, sizeOf}
+use Rattle.builds.specs.Catalogue.{Catalogue, sizeOf, rulesOf}
 use Rattle.search.specs.declared.Seat.{Seat}
 use Rattle.search.specs.declared.Place.{Place}
 use Rattle.search.specs.declared.State.{State}
 use Rattle.search.specs.declared.State.the-variants.{Closed, Ready, AtWork}
 use Rattle.builds.specs.Lists.{everyBelow}
-use Rattle.search.specs.RecordFits.{choiceFits, maskFits, replaceable, alternativesFit, entryFits, emptyAt, placeFits, depthOf, stateFits, seatFits}
+use Rattle.search.specs.Look.{isAtWork}
+use Rattle.search.specs.RecordFits.{choiceFits, maskFits, replaceable, alternativesFit, entryFits, emptyAt, placeFits, depthOf, stateFits, brokenFits, seatFits}
 
 module _ (test : ℕ → Bool) where
   pub every-below : (n : ℕ) → everyBelow n test ≡ true → (k : ℕ) → k < n → test k ≡ true
@@ -65,6 +67,10 @@ pub record StateFits (catalogue : Catalogue) (seat : Seat) (state : State) : Typ
   pub closed-empty : state ≡ Closed → (f : ℕ) → f < 16 → (getD (seat .choices) f 255 ≡ 255) × (getD (seat .masks) f 0 ≡ 0)
   pub place-within : (p : Place) → state ≡ AtWork p → PlaceFits catalogue p
 
+-- the last rule broken: none, or a rule of the list in a seat at work
+abbrev pub BrokenFits : Catalogue → State → ℕ → Type 0
+BrokenFits catalogue state broken = (broken ≡ 255 → ⊥) → (isAtWork state ≡ true) × (broken < length (rulesOf catalogue))
+
 pub record SeatFits (catalogue : Catalogue) (seat : Seat) : Type 0 where
   pub choice-below : (f : ℕ) → f < 16 → (getD (seat .choices) f 255 ≡ 255 → ⊥) → getD (seat .choices) f 255 < sizeOf catalogue f
   pub mask-below : (f : ℕ) → f < 16 → getD (seat .masks) f 0 < 2 ^ sizeOf catalogue f
@@ -72,6 +78,7 @@ pub record SeatFits (catalogue : Catalogue) (seat : Seat) : Type 0 where
   pub state-fits : StateFits catalogue seat (seat .state)
   pub placed-below : (f : ℕ) → f < 16 → f < depthOf (seat .state) → getD (seat .trial) f 255 < sizeOf catalogue f
   pub nothing-from : (f : ℕ) → f < 16 → depthOf (seat .state) ≤ f → getD (seat .trial) f 255 ≡ 255
+  pub rule-within : BrokenFits catalogue (seat .state) (seat .broken)
 
 module _ (catalogue : Catalogue) (seat : Seat) where
   state-within : (state : State) → stateFits catalogue seat state ≡ true → StateFits catalogue seat state
@@ -112,11 +119,26 @@ module _ (catalogue : Catalogue) (seat : Seat) where
       go true e = lt-ltb x size (placed (ltb-true f depth e))
       go false e = eq-eqb x 255 (nothing (ltb-false f depth e))
 
+  rule-fits : (state : State) (broken : ℕ) → brokenFits catalogue state broken ≡ true → BrokenFits catalogue state broken
+  rule-fits state broken h other =
+      let t = and-eq-true-iff (isAtWork state) (ltb broken (length (rulesOf catalogue))) .0 (rw (ne-eqb broken 255 other) at h) in
+      (t .0, ltb-true broken (length (rulesOf catalogue)) (t .1))
+
+  fits-rule : (state : State) (broken : ℕ) → BrokenFits catalogue state broken → brokenFits catalogue state broken ≡ true
+  fits-rule state broken fits = go (eqb broken 255) refl
+    where
+      go : (none : Bool) → eqb broken 255 ≡ none → (none || (isAtWork state && ltb broken (length (rulesOf catalogue)))) ≡ true
+      go true e = refl
+      go false e =
+          let t = fits (eqb-false broken 255 e) in
+          and-eq-true-iff (isAtWork state) _ .1 (t .0, lt-ltb broken (length (rulesOf catalogue)) (t .1))
+
   pub seat-fits : seatFits catalogue seat ≡ true → SeatFits catalogue seat
   unfolding seatFits
   seat-fits h =
       let depth = depthOf (seat .state) in
-      let t3 = and-eq-true-iff _ (everyBelow 16 (entryFits (catalogue .sizes) depth (seat .trial))) .0 h in
+      let t4 = and-eq-true-iff _ (brokenFits catalogue (seat .state) (seat .broken)) .0 h in
+      let t3 = and-eq-true-iff _ (everyBelow 16 (entryFits (catalogue .sizes) depth (seat .trial))) .0 (t4 .0) in
       let t2 = and-eq-true-iff _ (stateFits catalogue seat (seat .state)) .0 (t3 .0) in
       let alternatives = alternativesFit (catalogue .sizes) (seat .choices) (seat .alternatives) in
       let t1 = and-eq-true-iff _ (everyBelow 16 alternatives) .0 (t2 .0) in
@@ -130,6 +152,7 @@ module _ (catalogue : Catalogue) (seat : Seat) where
         state-fits = state-within (seat .state) (t2 .1);
         placed-below = λ (f : ℕ) (l : f < 16) (placed : f < depth). ltb-true _ _ (rw (lt-ltb f depth placed) at (entry f l));
         nothing-from = λ (f : ℕ) (l : f < 16) (deep : depth ≤ f). eqb-true _ _ (rw (le-ltb f depth deep) at (entry f l));
+        rule-within = rule-fits (seat .state) (seat .broken) (t4 .1);
       }
 
   pub fits-seat : SeatFits catalogue seat → seatFits catalogue seat ≡ true
@@ -145,5 +168,7 @@ module _ (catalogue : Catalogue) (seat : Seat) where
       let state = within-state (seat .state) (fits .state-fits) in
       let entries = below-every (entryFits (catalogue .sizes) (depthOf (seat .state)) (seat .trial)) 16
       (λ (f : ℕ) (l : f < 16). entry-within f (depthOf (seat .state)) (getD (seat .trial) f 255) (sizeOf catalogue f) (fits .placed-below f l) (fits .nothing-from f l)) in
+      let rule = fits-rule (seat .state) (seat .broken) (fits .rule-within) in
       and-eq-true-iff _ _ .1
-      (and-eq-true-iff _ _ .1 (and-eq-true-iff _ _ .1 (and-eq-true-iff _ _ .1 (choices, masks), alternatives), state), entries)
+      (and-eq-true-iff _ _ .1
+      (and-eq-true-iff _ _ .1 (and-eq-true-iff _ _ .1 (and-eq-true-iff _ _ .1 (choices, masks), alternatives), state), entries), rule)

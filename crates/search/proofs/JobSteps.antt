@@ -12,11 +12,13 @@ use Rattle.builds.specs.Fault.{faultOf}
 use Rattle.builds.proofs.Faultless.{fault-zero}
 use Rattle.search.specs.declared.State.{State}
 use Rattle.search.specs.declared.State.the-variants.{Ready}
-use Rattle.search.specs.Clinic.{Clinic, nothing16, moved}
+use Rattle.search.specs.Clinic.{Clinic, nothing16, moved, withBroken}
+use Rattle.search.specs.Look.{isAtWork}
 use Rattle.search.specs.Step.{started, pairEnded, steps, posted}
 use Rattle.builds.specs.Lists.{sum}
 use Rattle.search.specs.Count.{pairSearch, pairsFrom, pairCounts, jobSteps}
-use Rattle.search.proofs.WithBuild.{build-choices, build-moved}
+use Rattle.search.proofs.WithBuild.{build-choices, build-broken, build-moved}
+use Rattle.search.proofs.SearchAlone.{Alike, steps-rest}
 use Rattle.search.proofs.TakesSteps.{TakesSteps, Working, working, takes-steps, takes-before, takes-to, takes-join, takes-weaken}
 use Rattle.search.proofs.PairSteps.{withFound, stays, some-option, pair-takes}
 use Rattle.search.proofs.PairsInOrder.{InOrder, stateAt, feature-first, pairs-in-order}
@@ -38,6 +40,11 @@ module _ (choices : List ℕ) (i a : ℕ) where
   found-choices none clinic = refl
   found-choices (some example) clinic = build-choices choices i a example clinic
 
+  found-broken : (found : Option (List ℕ)) (clinic : Clinic)
+      → withFound choices i a found clinic .seat .broken ≡ clinic .seat .broken
+  found-broken none clinic = refl
+  found-broken (some example) clinic = build-broken choices i a example clinic
+
 module _ (catalogue : Catalogue) (choices : List ℕ) where
   worked-moved : (ps : List (ℕ × ℕ)) (state : State) (trial : List ℕ) (clinic : Clinic)
       → worked catalogue choices ps (moved state trial clinic) ≡ moved state trial (worked catalogue choices ps clinic)
@@ -54,6 +61,12 @@ module _ (catalogue : Catalogue) (choices : List ℕ) where
   worked-choices [] clinic = refl
   worked-choices (p ∷ ps) clinic =
       worked-choices ps _ ∙ found-choices choices (p .0) (p .1) (pairSearch catalogue choices (p .0) (p .1) .found) clinic
+
+  worked-broken : (ps : List (ℕ × ℕ)) (clinic : Clinic) → worked catalogue choices ps clinic .seat .broken ≡ clinic .seat .broken
+  unfolding worked
+  worked-broken [] clinic = refl
+  worked-broken (p ∷ ps) clinic =
+      worked-broken ps _ ∙ found-broken choices (p .0) (p .1) (pairSearch catalogue choices (p .0) (p .1) .found) clinic
 
   abbrev counted : ℕ × ℕ → ℕ
   counted p = pairSearch catalogue choices (p .0) (p .1) .count
@@ -95,7 +108,16 @@ module _ (catalogue : Catalogue) (fault : faultOf catalogue ≡ 0) (choices : Li
           ∙ rw (lt-ltb 0 (length (catalogue .sizes)) (fault-zero catalogue fault .some-feature)) refl
 
   pub job-steps : steps catalogue (jobSteps catalogue choices) (posted (catalogue .sizes) choices) ≡ jobEnded catalogue choices
-  job-steps = takes-steps job-takes
+  unfolding posted
+  job-steps =
+      let same : Alike catalogue (steps catalogue (jobSteps catalogue choices) (posted (catalogue .sizes) choices)) (jobEnded catalogue choices)
+      = takes-steps job-takes in
+      let ready = ap (λ (clinic : Clinic). isAtWork (clinic .seat .state)) same in
+      let none = steps-rest catalogue (jobSteps catalogue choices) (posted (catalogue .sizes) choices) (λ e. refl) ready in
+      same ∙ ap (λ (broken : ℕ). withBroken broken (jobEnded catalogue choices)) none ∙ unbroken
+    where
+      unbroken : withBroken 255 (jobEnded catalogue choices) ≡ jobEnded catalogue choices
+      unbroken = ap (λ (broken : ℕ). withBroken broken (jobEnded catalogue choices)) (sym (worked-broken catalogue choices (pairsFrom 0 (catalogue .sizes)) (posted (catalogue .sizes) choices)))
 
   pub job-at-work : (n : ℕ) → n < jobSteps catalogue choices
       → Working (steps catalogue n (posted (catalogue .sizes) choices) .seat .state)
@@ -103,7 +125,7 @@ module _ (catalogue : Catalogue) (fault : faultOf catalogue ≡ 0) (choices : Li
 
   pub job-counts : 1 ≤ jobSteps catalogue choices
   unfolding posted steps
-  job-counts = go (jobSteps catalogue choices) (takes-steps job-takes)
+  job-counts = go (jobSteps catalogue choices) job-steps
     where
       go : (n : ℕ) → steps catalogue n (posted (catalogue .sizes) choices) ≡ jobEnded catalogue choices → 1 ≤ n
       go zero e =

@@ -19,6 +19,7 @@ pub mod SetAside
 pub mod WithBuild
 pub mod PlaceBounds
 pub mod ExamplePlaces
+pub mod SearchAlone
 pub mod TakesSteps
 pub mod CandidatesInOrder
 pub mod CandidatesAt

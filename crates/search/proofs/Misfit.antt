@@ -15,7 +15,8 @@ use Rattle.search.specs.declared.Place.{Place}
 use Rattle.search.specs.declared.State.{State}
 use Rattle.search.specs.declared.State.the-variants.{Closed, Ready, AtWork}
 use Rattle.search.specs.Bits.{hasBit}
-use Rattle.search.specs.RecordFits.{choiceFits, maskFits, replaceable, alternativesFit, entryFits, emptyAt, placeFits, depthOf, stateFits, seatFits}
+use Rattle.search.specs.Look.{isAtWork}
+use Rattle.search.specs.RecordFits.{choiceFits, maskFits, replaceable, alternativesFit, entryFits, emptyAt, placeFits, depthOf, stateFits, brokenFits, seatFits}
 use Rattle.search.specs.Misfit.{Misfit}
 use Rattle.search.proofs.Bits.{no-bit-above}
 use Rattle.search.proofs.NoBits.{some-bit-from}
@@ -71,6 +72,11 @@ module _ (catalogue : Catalogue) (seat : Seat) where
   no-alternative fits f a l above =
       no-bit (replaceable (catalogue .sizes) (seat .choices) f) (getD (seat .alternatives) f 0) a (fits .alternatives-below f l) above
 
+  not-working : (state : State) → ((p : Place) → state ≡ AtWork p → ⊥) → isAtWork state ≡ true → ⊥
+  not-working Closed idle e = true≢false (sym e)
+  not-working Ready idle e = true≢false (sym e)
+  not-working (AtWork p) idle e = idle p refl
+
   no-misfit : SeatFits catalogue seat → Misfit catalogue seat → ⊥
   no-misfit fits (Misfit.choice f l other above) =
       omega (arith, fits .choice-below f l other, not-below f (getD (seat .choices) f 255) above)
@@ -90,6 +96,8 @@ module _ (catalogue : Catalogue) (seat : Seat) where
       omega (arith, fits .placed-below f l (omega arith))
   no-misfit fits (Misfit.other-entry f l from other) =
       other (fits .nothing-from f l (depth-at-most f (seat .state) from))
+  no-misfit fits (Misfit.no-such-rule other above) = omega (arith, fits .rule-within other .1)
+  no-misfit fits (Misfit.rule-not-at-work other idle) = not-working (seat .state) idle (fits .rule-within other .0)
   no-misfit fits (Misfit.closed-choice f e l other) = other (fits .state-fits .closed-empty e f l .0)
   no-misfit fits (Misfit.closed-mask-bit f a e l bit) =
       let none = fits .state-fits .closed-empty e f l .1 in
@@ -167,14 +175,25 @@ module _ (catalogue : Catalogue) (seat : Seat) where
           (λ (p : Place) at-p. let depth : depthOf (seat .state) ≡ p .depth = ap depthOf at-p in
           omega (arith, ltb-false f (depthOf (seat .state)) e)) (eqb-false _ 255 h)
 
+  rule-fails : brokenFits catalogue (seat .state) (seat .broken) ≡ false → Misfit catalogue seat
+  rule-fails h =
+      let both = neither (eqb (seat .broken) 255) _ h in
+      let other = eqb-false (seat .broken) 255 (both .0) in
+      ⊎-elim
+      (λ t. Misfit.rule-not-at-work other (λ (p : Place) at-p. true≢false (sym (ap isAtWork at-p) ∙ t)))
+      (λ t. Misfit.no-such-rule other (ltb-false _ _ t))
+      (either-fails (isAtWork (seat .state)) _ (both .1))
+
   misfit-here : seatFits catalogue seat ≡ false → Misfit catalogue seat
   unfolding seatFits
   misfit-here h =
       ⊎-elim
+      (λ h4. ⊎-elim
       (λ h3. ⊎-elim
       (λ h2. ⊎-elim (λ h1. ⊎-elim choice-fails mask-fails (either-fails _ _ h1)) alternatives-fail (either-fails _ _ h2))
       (state-fails (seat .state) refl) (either-fails _ _ h3))
-      entry-fails
+      entry-fails (either-fails _ _ h4))
+      rule-fails
       (either-fails _ _ h)
 
   pub misfit-iff : (seatFits catalogue seat ≡ false) ↔ Misfit catalogue seat

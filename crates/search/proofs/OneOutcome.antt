@@ -5,6 +5,7 @@ use mathlib.Core.Path.{_≡_, refl, sym, _∙_}
 use mathlib.Core.Logic.{_↔_, _⊎_, inl, inr, ⊎-elim}
 use mathlib.Core.Bool.{Bool, true, false}
 use mathlib.Core.List.{List}
+use mathlib.Core.Option.{Option, none, some}
 use native.Mathlib.Nat.{eq-or-lt-of-le}
 use native.Mathlib.Omega.{arith}
 use lib.ListN.{length, getD, set}
@@ -12,27 +13,24 @@ use lib.Seq.{ext-getD}
 use lib.Dec.{eqb}
 use borrow.Author.Tests.{eqb-true, eqb-false}
 use Rattle.builds.specs.Catalogue.{Catalogue, rulesOf}
-use Rattle.builds.specs.Rule.{passes}
+use Rattle.builds.specs.Rule.{firstBroken, passes}
 use Rattle.builds.specs.Fault.{faultOf}
 use Rattle.search.specs.declared.Place.{Place}
 use Rattle.search.specs.declared.State.{State}
-use Rattle.search.specs.declared.State.the-variants.{AtWork}
+use Rattle.search.specs.declared.State.the-variants.{Ready, AtWork}
 use Rattle.search.specs.Bits.{hasBit}
 use Rattle.search.specs.Clinic.{Clinic}
 use Rattle.search.specs.Step.{step}
 use Rattle.search.specs.StepRules.{Least, Passed, NextPair, PairEnds, NothingWritten, BitSet, BuildWritten}
-use Rattle.search.specs.StepRules.{GoesOn, Tries, StepRules}
+use Rattle.search.specs.StepRules.{KeepsRule, GoesOn, Tries, StepRules}
 use Rattle.search.proofs.NoBits.{same-bits}
 use Rattle.search.proofs.FitsInWords.{seat-fits}
 use Rattle.search.proofs.PlaceBounds.{place-at-work}
 use Rattle.search.proofs.ClinicFits.{ClinicFits}
 use Rattle.search.proofs.StepFits.{step-fits}
-use Rattle.search.proofs.PassedInWords.{passed-iff}
+use Rattle.search.proofs.PassedInWords.{passed-iff, none-named, lowest-named}
 use Rattle.search.proofs.NearestDepth.{Nearest, nearest}
-use Rattle.search.proofs.StepRules.{step-rules}
-
-one-least : {P : ℕ → Type 0} {n m : ℕ} → Least P n → Least P m → n ≡ m
-one-least {n} {m} l k = omega (arith, l .1 m (k .0), k .1 n (l .0))
+use Rattle.search.proofs.StepRules.{one-least, step-rules}
 
 one-next : {sizes choices : List ℕ} {i a : ℕ} {s t : State} → NextPair sizes choices i a s → NextPair sizes choices i a t
     → s ≡ t
@@ -58,20 +56,49 @@ one-bit-set i a before x y as-many h k =
     (λ (f : ℕ) l.
     same-bits (getD x f 0) (getD y f 0) (λ (b : ℕ). iff-same (hasBit (getD x f 0) b) (hasBit (getD y f 0) b) (h f b) (k f b)))
 
+-- a seat at work or ready, as a step leaves it
+data Open (state : State) : Type 0 where
+  is-ready : state ≡ Ready → Open state
+  is-at-work : (p : Place) → state ≡ AtWork p → Open state
+
+next-open : {sizes choices : List ℕ} {i a : ℕ} {s : State} → NextPair sizes choices i a s → Open s
+next-open (NextPair.next-option l v) = is-at-work _ refl
+next-open (NextPair.next-feature l k v) = is-at-work _ refl
+next-open (NextPair.last-pair l k) = is-ready refl
+
 module _ (before x y : Clinic) (as-many-masks : length (x .seat .masks) ≡ length (y .seat .masks))
     (as-many-alternatives : length (x .seat .alternatives) ≡ length (y .seat .alternatives)) where
   same-clinic : x .seat .state ≡ y .seat .state → x .seat .choices ≡ y .seat .choices → x .seat .masks ≡ y .seat .masks
-      → x .seat .trial ≡ y .seat .trial → x .seat .alternatives ≡ y .seat .alternatives → x .share ≡ y .share → x ≡ y
-  same-clinic s c m t a b =
-      λ k. record { seat = record { state = s k; choices = c k; masks = m k; trial = t k; alternatives = a k }; share = b k }
+      → x .seat .trial ≡ y .seat .trial → x .seat .alternatives ≡ y .seat .alternatives → x .seat .broken ≡ y .seat .broken
+      → x .share ≡ y .share → x ≡ y
+  same-clinic s c m t a r b = λ k. record {
+    seat = record { state = s k; choices = c k; masks = m k; trial = t k; alternatives = a k; broken = r k };
+    share = b k;
+  }
 
-  module _ (choices-same : x .seat .choices ≡ y .seat .choices) where
+  -- the rule that is kept, where the state is the same
+  one-rule : {catalogue : Catalogue} {j : ℕ} {placed : List ℕ} → faultOf catalogue ≡ 0 → KeepsRule catalogue j placed before x
+      → KeepsRule catalogue j placed before y → Open (x .seat .state) → x .seat .state ≡ y .seat .state → x .seat .broken ≡ y .seat .broken
+  one-rule fault h k (is-ready e) same = h .none-when-ready e ∙ sym (k .none-when-ready (sym same ∙ e))
+  one-rule {catalogue} {j} {placed} fault h k (is-at-work p e) same = go (firstBroken (rulesOf catalogue) j placed) refl
+    where
+      go : (found : Option ℕ) → firstBroken (rulesOf catalogue) j placed ≡ found → x .seat .broken ≡ y .seat .broken
+      go none f =
+          let passed = none-named j placed catalogue fault f in
+          h .passed e passed ∙ sym (k .passed (sym same ∙ e) passed)
+      go (some n) f =
+          let lowest = lowest-named j placed catalogue fault n f in
+          h .failed n e lowest ∙ sym (k .failed n (sym same ∙ e) lowest)
+
+  module _ (choices-same : x .seat .choices ≡ y .seat .choices)
+      (rule-same : Open (x .seat .state) → x .seat .state ≡ y .seat .state → x .seat .broken ≡ y .seat .broken) where
     -- a pair's end, with whatever was written
     one-end : {sizes : List ℕ} {i a : ℕ} → PairEnds sizes i a before x → PairEnds sizes i a before y
         → x .seat .masks ≡ y .seat .masks → x .seat .alternatives ≡ y .seat .alternatives → x .share ≡ y .share → x ≡ y
     one-end h k masks alternatives share =
-        same-clinic (one-next (h .next-pair) (k .next-pair)) choices-same masks
-        (h .nothing-placed ∙ sym (k .nothing-placed)) alternatives share
+        let same = one-next (h .next-pair) (k .next-pair) in
+        same-clinic same choices-same masks (h .nothing-placed ∙ sym (k .nothing-placed)) alternatives
+        (rule-same (next-open (h .next-pair)) same) share
 
     one-end-without : {sizes : List ℕ} {i a : ℕ} → PairEnds sizes i a before x × NothingWritten before x
         → PairEnds sizes i a before y × NothingWritten before y → x ≡ y
@@ -108,9 +135,10 @@ module _ (before x y : Clinic) (as-many-masks : length (x .seat .masks) ≡ leng
     one-place h k =
         let u = h .nothing-written in
         let v = k .nothing-written in
-        same-clinic (h .at-place ∙ sym (k .at-place)) choices-same (u .masks-stay ∙ sym (v .masks-stay))
+        let same = h .at-place ∙ sym (k .at-place) in
+        same-clinic same choices-same (u .masks-stay ∙ sym (v .masks-stay))
         (h .kept-before ∙ sym (k .kept-before)) (u .alternatives-stay ∙ sym (v .alternatives-stay))
-        (u .share-stays ∙ sym (v .share-stays))
+        (rule-same (is-at-work _ (h .at-place)) same) (u .share-stays ∙ sym (v .share-stays))
 
     one-try : (catalogue : Catalogue) → faultOf catalogue ≡ 0 → (i a j : ℕ) → j < length (catalogue .sizes)
         → (choices placed : List ℕ) → Tries catalogue i a j choices placed before x
@@ -142,7 +170,7 @@ module _ (before x y : Clinic) (as-many-masks : length (x .seat .masks) ≡ leng
   one-outcome : (catalogue : Catalogue) → faultOf catalogue ≡ 0 → (i a j v : ℕ) → j < length (catalogue .sizes)
       → StepRules catalogue i a j v before x → StepRules catalogue i a j v before y → x ≡ y
   one-outcome catalogue fault i a j v within h k =
-      one-try (h .choices-stay ∙ sym (k .choices-stay)) catalogue fault i a j within (before .seat .choices)
+      one-try (h .choices-stay ∙ sym (k .choices-stay)) (one-rule fault (h .keeps-rule) (k .keeps-rule)) catalogue fault i a j within (before .seat .choices)
       (set (before .seat .trial) j v) (h .tries) (k .tries)
 
 pub only-the-step : (catalogue : Catalogue) (clinic : Clinic) → faultOf catalogue ≡ 0 → ClinicFits catalogue clinic

@@ -16,6 +16,7 @@ use Rattle.search.specs.Clinic.{Clinic, nothing16, moved}
 use Rattle.search.specs.Candidates.{candidates}
 use Rattle.search.specs.Step.{started, pairEnded, withBuild, afterTried, steps}
 use Rattle.search.specs.Count.{Search, nothingTried, oneStep, orLater, searchEach, searchFrom, pairSearch}
+use Rattle.search.proofs.SearchAlone.{Alike}
 use Rattle.search.proofs.TakesSteps.{TakesSteps, WorkingOn, takes-steps, takes-before, takes-to, takes-from}
 use Rattle.search.proofs.CandidatesInOrder.{firstOf, candidates-first}
 use Rattle.search.proofs.GivenUp.{PlacedBelow, depthExhausted}
@@ -130,7 +131,7 @@ module _ (catalogue : Catalogue) (fault : faultOf catalogue ≡ 0) (choices : Li
           trial-is = begins .trial-is;
         }
 
-    pub pair-steps : steps catalogue (pairSearch catalogue choices i a .count) clinic ≡ ended
+    pub pair-steps : Alike catalogue (steps catalogue (pairSearch catalogue choices i a .count) clinic) ended
     pair-steps = takes-steps pair-takes
 
     pub pair-at-work : (n : ℕ) → n < pairSearch catalogue choices i a .count → WorkingOn i a (steps catalogue n clinic .seat .state)

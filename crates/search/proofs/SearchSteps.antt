@@ -16,9 +16,10 @@ use Rattle.search.specs.declared.State.{State}
 use Rattle.search.specs.declared.State.the-variants.{AtWork}
 use Rattle.search.specs.Clinic.{Clinic, moved}
 use Rattle.search.specs.Candidates.{candidates, firstCandidate, firstAbove}
-use Rattle.search.specs.Step.{Tried, goOn, build, exhausted, goOnIf, givenUp, tried, pairEnded, afterTried, stepAt, stepFrom, step}
+use Rattle.search.specs.Step.{Tried, goOn, build, exhausted, goOnIf, givenUp, tried, pairEnded, afterTried, searchAt}
 use Rattle.search.specs.Count.{Search, nothingTried, oneStep, orLater, searchEach, searchFrom}
 use Rattle.search.proofs.WithBuild.{build-moved}
+use Rattle.search.proofs.SearchAlone.{aloneFrom, alone}
 use Rattle.search.proofs.TakesSteps.{TakesSteps, WorkingOn, takes-times, takes-from, takes-join}
 use Rattle.search.proofs.CandidatesInOrder.{CandidatesInOrder, firstOf, candidates-in-turn, candidates-first}
 use Rattle.search.proofs.GivenUp.{PlacedBelow, placed-one-more, depthExhausted, given-up, placed-given-up}
@@ -91,9 +92,9 @@ module _ (catalogue : Catalogue) (i a : ℕ) (clinic : Clinic) where
   next-left j v vs trial next = given-up sizes choices i a j v trial ∙ rw next refl
 
   step-tries : (j v : ℕ) (trial : List ℕ)
-      → step catalogue (afterTried sizes i a clinic (goOn j v trial))
+      → alone catalogue (afterTried sizes i a clinic (goOn j v trial))
       ≡ afterTried sizes i a clinic (tried catalogue choices i a j v trial)
-  unfolding step stepFrom stepAt afterTried
+  unfolding alone aloneFrom searchAt afterTried
   step-tries j v trial =
       let here : State = AtWork (record { feature = i; option = a; depth = j; next = v }) in
       let after : Tried = tried catalogue choices i a j v trial in

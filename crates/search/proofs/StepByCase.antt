@@ -1,5 +1,5 @@
 -- What the definition of a step at a place comes to, case by case: what comes of trying is followed, and that is a build,
--- one depth more, or an option given up.
+-- one depth more, or an option given up; then the rule that the test named is kept.
 use Prim.Native.Nat.{ℕ, _+_, _<_}
 use mathlib.Core.Path.{_≡_, refl}
 use mathlib.Core.Bool.{true, false}
@@ -11,18 +11,22 @@ use Rattle.builds.specs.Catalogue.{Catalogue, rulesOf}
 use Rattle.builds.specs.Rule.{passes}
 use Rattle.search.specs.declared.Place.{Place}
 use Rattle.search.specs.declared.State.the-variants.{AtWork}
-use Rattle.search.specs.Clinic.{Clinic}
+use Rattle.search.specs.Clinic.{Clinic, withBroken}
 use Rattle.search.specs.Candidates.{firstCandidate}
-use Rattle.search.specs.Step.{Tried, goOn, build, givenUp, tried, afterTried, stepAt, stepFrom, step}
+use Rattle.search.specs.Step.{Tried, goOn, build, givenUp, tried, afterTried, searchAt, testAt, brokenAfter, stepAt, stepFrom, step}
 
 module _ (catalogue : Catalogue) (clinic : Clinic) (p : Place) (at-work : clinic .seat .state ≡ AtWork p) where
   -- what comes of trying at the place
   abbrev pub triedAt : Tried
   triedAt = tried catalogue (clinic .seat .choices) (p .feature) (p .option) (p .depth) (p .next) (clinic .seat .trial)
 
+  -- a clinic after the search, with the rule that it then keeps
+  abbrev pub keeping : Clinic → Clinic
+  keeping after = withBroken (brokenAfter (after .seat .state) (testAt catalogue p clinic) (clinic .seat .broken)) after
+
   pub followed : (t : Tried) → triedAt ≡ t
-      → step catalogue clinic ≡ afterTried (catalogue .sizes) (p .feature) (p .option) clinic t
-  unfolding step stepFrom stepAt
+      → step catalogue clinic ≡ keeping (afterTried (catalogue .sizes) (p .feature) (p .option) clinic t)
+  unfolding step stepFrom stepAt searchAt
   followed t e = rw (at-work, e) refl
 
 module _ (catalogue : Catalogue) (choices : List ℕ) (i a j v : ℕ) (trial : List ℕ) where

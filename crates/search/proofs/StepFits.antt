@@ -6,26 +6,28 @@ use mathlib.Core.Path.{_≡_, refl, _∙_}
 use mathlib.Core.Bool.{Bool, true, false, cond}
 use mathlib.Core.List.{List}
 use native.Mathlib.Omega.{arith}
-use lib.ListN.{length, length-map, length-replicate}
+use lib.ListN.{length, set, length-map, length-replicate}
 use lib.Pow.{pow-pos}
 use lib.Dec.{ltb}
 use borrow.Author.Tests.{ltb-true}
-use Rattle.builds.specs.Catalogue.{Catalogue, sizeOf}
+use Rattle.builds.specs.Catalogue.{Catalogue, sizeOf, rulesOf}
 use Rattle.builds.specs.Fault.{faultOf}
 use Rattle.builds.proofs.Faultless.{fault-zero}
+use Rattle.builds.proofs.FirstBroken.{named-below}
 use Rattle.search.specs.declared.Place.{Place}
 use Rattle.search.specs.declared.State.{State}
 use Rattle.search.specs.declared.State.the-variants.{Closed, Ready, AtWork}
-use Rattle.search.specs.Clinic.{Clinic, nothing16, inForce, withExample, withAlternative}
+use Rattle.search.specs.Clinic.{Clinic, nothing16, inForce, withExample, withAlternative, withBroken}
 use Rattle.search.specs.Candidates.{chosenOtherwise}
-use Rattle.search.specs.Step.{Tried, started, afterPair, pairEnded, withBuild, afterTried, stepAt, stepFrom, step, posted}
+use Rattle.search.specs.Step.{Tried, started, afterPair, pairEnded, withBuild, afterTried, searchAt, testAt, stepAt, stepFrom, step}
+use Rattle.search.specs.Step.{posted}
 use Rattle.search.specs.RecordFits.{depthOf}
 use Rattle.search.proofs.FitsInWords.{PlaceFits, SeatFits, seat-fits}
 use Rattle.search.proofs.PlaceBounds.{first-has-option, size-within, feature-below-16, option-below-16}
 use Rattle.search.proofs.PairSteps.{same-again}
 use Rattle.search.proofs.CandidatesBelow.{ChoicesWithin, first-below}
 use Rattle.search.proofs.TrialFits.{TrialFits, nothing-placed, TriedFits, on-fits, build-fits, nothing-fits, tried-fits}
-use Rattle.search.proofs.ClinicFits.{ClinicFits, HoldingFits, OpenFits, ready, at-work, moved-fits}
+use Rattle.search.proofs.ClinicFits.{ClinicFits, HoldingFits, OpenFits, ready, at-work, moved-fits, with-rule, kept-fits}
 use Rattle.search.proofs.ClinicFits.{clinic-holds, example-holds, alternative-holds, in-force-below}
 use Rattle.search.proofs.SetAside.{chosen-otherwise}
 
@@ -69,7 +71,7 @@ module _ (catalogue : Catalogue) (fault : faultOf catalogue ≡ 0) where
         go false false = refl
 
   pair-ended-fits : (i a : ℕ) → i < length (catalogue .sizes) → (clinic : Clinic) → HoldingFits catalogue clinic
-      → ClinicFits catalogue (pairEnded (catalogue .sizes) i a clinic)
+      → ClinicFits catalogue (withBroken 255 (pairEnded (catalogue .sizes) i a clinic))
   unfolding pairEnded
   pair-ended-fits i a feature clinic holds =
       let state : State = afterPair (catalogue .sizes) (clinic .seat .choices) i a in
@@ -79,7 +81,7 @@ module _ (catalogue : Catalogue) (fault : faultOf catalogue ≡ 0) where
 
   module _ (p : Place) (within : PlaceFits catalogue p) (clinic : Clinic) (holds : HoldingFits catalogue clinic) where
     after-tried-fits : {tried-now : Tried} → TriedFits catalogue tried-now
-        → ClinicFits catalogue (afterTried (catalogue .sizes) (p .feature) (p .option) clinic tried-now)
+        → ClinicFits catalogue (withBroken 255 (afterTried (catalogue .sizes) (p .feature) (p .option) clinic tried-now))
     unfolding afterTried
     after-tried-fits (on-fits {depth} {next} {trial} depth-below next-below trial-fits) =
         moved-fits catalogue clinic holds
@@ -107,12 +109,18 @@ module _ (catalogue : Catalogue) (fault : faultOf catalogue ≡ 0) where
             (option-below-16 catalogue fault within) (within .option-below) trial full clinic holds
     after-tried-fits nothing-fits = pair-ended-fits (p .feature) (p .option) (within .feature-below) clinic holds
 
-    step-at-fits : TrialFits catalogue (p .depth) (clinic .seat .trial) → ClinicFits catalogue (stepAt catalogue p clinic)
-    unfolding stepAt
-    step-at-fits trial-fits =
-        after-tried-fits
+    step-at-fits : TrialFits catalogue (p .depth) (clinic .seat .trial)
+        → ((clinic .seat .broken ≡ 255 → ⊥) → clinic .seat .broken < length (rulesOf catalogue))
+        → ClinicFits catalogue (stepAt catalogue p clinic)
+    unfolding stepAt searchAt
+    step-at-fits trial-fits rule-stood =
+        with-rule catalogue (searchAt catalogue p clinic)
+        (after-tried-fits
         (tried-fits catalogue fault (clinic .seat .choices) (holds .choice-below) (p .feature) (p .option)
-        (within .option-below) (p .depth) (p .next) (clinic .seat .trial) (within .depth-below) (within .next-below) trial-fits)
+        (within .option-below) (p .depth) (p .next) (clinic .seat .trial) (within .depth-below) (within .next-below) trial-fits))
+        _
+        (kept-fits catalogue (searchAt catalogue p clinic .seat .state) (testAt catalogue p clinic) (clinic .seat .broken) rule-stood
+        (named-below (p .depth) (set (clinic .seat .trial) (p .depth) (p .next)) (rulesOf catalogue)))
 
   pub step-fits : (clinic : Clinic) → ClinicFits catalogue clinic → ClinicFits catalogue (step catalogue clinic)
   unfolding step stepFrom
@@ -132,6 +140,7 @@ module _ (catalogue : Catalogue) (fault : faultOf catalogue ≡ 0) where
             placed-below = seat-is .placed-below;
             nothing-from = seat-is .nothing-from;
           }))
+          (λ broken. seat-is .rule-within broken .1)
 
   pub posted-fits : (choices : List ℕ) → length choices ≡ 16 → ChoicesWithin catalogue choices
       → ClinicFits catalogue (posted (catalogue .sizes) choices)

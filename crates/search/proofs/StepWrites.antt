@@ -18,8 +18,8 @@ use Rattle.search.specs.declared.Place.{Place}
 use Rattle.search.specs.declared.State.{State}
 use Rattle.search.specs.declared.State.the-variants.{Closed, Ready, AtWork}
 use Rattle.search.specs.Bits.{hasBit, withBit, withBitAt}
-use Rattle.search.specs.Clinic.{Clinic, noneLeft, emptyShare, withExample, withAlternative}
-use Rattle.search.specs.Step.{Tried, goOn, build, exhausted, pairEnded, afterTried, tried, stepAt, stepFrom, step, steps}
+use Rattle.search.specs.Clinic.{Clinic, noneLeft, emptyShare, withExample, withAlternative, withBroken}
+use Rattle.search.specs.Step.{Tried, goOn, build, exhausted, pairEnded, afterTried, tried, searchAt, stepAt, stepFrom, step, steps}
 use Rattle.search.proofs.WithBuild.{by-case}
 use Rattle.search.proofs.Bits.{no-bit-above}
 use Rattle.search.proofs.FitsInWords.{seat-fits}
@@ -47,11 +47,17 @@ module _ (catalogue : Catalogue) (clinic : Clinic) where
         (λ e. nothing refl refl) (λ e. an-example p at-work refl)
     tried-writes exhausted = nothing refl refl
 
+    -- the rule that is kept is no part of it
+    still-writes : (after : Clinic) (broken : ℕ) → Writes clinic after → Writes clinic (withBroken broken after)
+    still-writes after broken (nothing masks-are share-is) = nothing masks-are share-is
+    still-writes after broken (an-example q at-q masks-are) = an-example q at-q masks-are
+
     step-at-writes : Writes clinic (stepAt catalogue p clinic)
-    unfolding stepAt
+    unfolding stepAt searchAt
     step-at-writes =
-        tried-writes
-        (tried catalogue (clinic .seat .choices) (p .feature) (p .option) (p .depth) (p .next) (clinic .seat .trial))
+        still-writes (searchAt catalogue p clinic) _
+        (tried-writes
+        (tried catalogue (clinic .seat .choices) (p .feature) (p .option) (p .depth) (p .next) (clinic .seat .trial)))
 
   pub step-writes : Writes clinic (step catalogue clinic)
   unfolding step stepFrom
@@ -155,7 +161,7 @@ module _ (catalogue : Catalogue) (clinic : Clinic) (has-place : (p : Place) → 
   tried-keeps p at-work shown exhausted = shown
 
   pub alternatives-stay : Shown clinic → Shown (step catalogue clinic)
-  unfolding step stepFrom stepAt
+  unfolding step stepFrom stepAt searchAt
   alternatives-stay shown = go (clinic .seat .state) refl
     where
       go : (state : State) → clinic .seat .state ≡ state → Shown (stepFrom catalogue state clinic)

@@ -8,7 +8,7 @@ use Rattle.search.specs.declared.Place.{Place}
 use Rattle.search.specs.declared.State.{State}
 use Rattle.search.specs.declared.State.the-variants.{Closed, Ready, AtWork}
 use Rattle.search.specs.Clinic.{Clinic, closedClinic}
-use Rattle.search.specs.Step.{Tried, goOn, build, exhausted, pairEnded, afterTried, tried, stepAt, stepFrom, step, steps}
+use Rattle.search.specs.Step.{Tried, goOn, build, exhausted, pairEnded, afterTried, tried, searchAt, stepAt, stepFrom, step, steps}
 use Rattle.search.proofs.WithBuild.{build-choices}
 
 module _ (catalogue : Catalogue) where
@@ -31,7 +31,7 @@ module _ (catalogue : Catalogue) where
     tried-choices p exhausted = refl
 
     step-choices : (state : State) → stepFrom catalogue state clinic .seat .choices ≡ clinic .seat .choices
-    unfolding stepFrom stepAt
+    unfolding stepFrom stepAt searchAt
     step-choices Closed = refl
     step-choices Ready = refl
     step-choices (AtWork p) =

@@ -1,15 +1,16 @@
--- Exactly so many steps from one clinic to another, none of them from a state that lacks a property, such as being at
--- work: what comes of it, and that such ways are joined end to end.
+-- Exactly so many steps of the search alone from one clinic to another, none of them from a state that lacks a property, such
+-- as being at work: what comes of it for the steps themselves, and that such ways are joined end to end.
 use Prim.Native.Nat.{ℕ, zero, suc, _+_, _<_}
-use mathlib.Core.Path.{_≡_, refl, sym, subst}
+use mathlib.Core.Path.{_≡_, refl, sym, ap, _∙_, subst}
 use native.Mathlib.Nat.{zero-add, suc-add}
 use native.Mathlib.Omega.{arith}
 use Rattle.builds.specs.Catalogue.{Catalogue}
 use Rattle.search.specs.declared.Place.{Place}
 use Rattle.search.specs.declared.State.{State}
 use Rattle.search.specs.declared.State.the-variants.{AtWork}
-use Rattle.search.specs.Clinic.{Clinic}
-use Rattle.search.specs.Step.{step, steps}
+use Rattle.search.specs.Clinic.{Clinic, withBroken}
+use Rattle.search.specs.Step.{steps}
+use Rattle.search.proofs.SearchAlone.{alone, aloneSteps, Alike, steps-alike}
 
 -- a state at work
 pub record Working (state : State) : Type 0 where
@@ -28,20 +29,27 @@ working w = record { place = w .place; at-work = w .at-work }
 
 pub data TakesSteps (catalogue : Catalogue) (P : State → Type 0) : ℕ → Clinic → Clinic → Type 0 where
   none : {x : Clinic} → TakesSteps catalogue P zero x x
-  first : {n : ℕ} {x y : Clinic} → P (x .seat .state) → TakesSteps catalogue P n (step catalogue x) y → TakesSteps catalogue P (suc n) x y
+  first : {n : ℕ} {x y : Clinic} → P (x .seat .state) → TakesSteps catalogue P n (alone catalogue x) y → TakesSteps catalogue P (suc n) x y
 
 module _ {catalogue : Catalogue} {P : State → Type 0} where
-  pub takes-steps : {n : ℕ} {x y : Clinic} → TakesSteps catalogue P n x y → steps catalogue n x ≡ y
-  unfolding steps
-  takes-steps TakesSteps.none = refl
-  takes-steps (TakesSteps.first h t) = takes-steps t
+  takes-alone : {n : ℕ} {x y : Clinic} → TakesSteps catalogue P n x y → aloneSteps catalogue n x ≡ y
+  unfolding aloneSteps
+  takes-alone TakesSteps.none = refl
+  takes-alone (TakesSteps.first h t) = takes-alone t
+
+  pub takes-steps : {n : ℕ} {x y : Clinic} → TakesSteps catalogue P n x y → Alike catalogue (steps catalogue n x) y
+  takes-steps {n} {x} t = steps-alike catalogue n x ∙ ap (withBroken (steps catalogue n x .seat .broken)) (takes-alone t)
+
+  before-alone : {n : ℕ} {x y : Clinic} → TakesSteps catalogue P n x y
+      → (k : ℕ) → k < n → P (aloneSteps catalogue k x .seat .state)
+  unfolding aloneSteps
+  before-alone TakesSteps.none k l = absurd (omega arith)
+  before-alone (TakesSteps.first h t) zero l = h
+  before-alone (TakesSteps.first h t) (suc k) l = before-alone t k (omega arith)
 
   pub takes-before : {n : ℕ} {x y : Clinic} → TakesSteps catalogue P n x y
       → (k : ℕ) → k < n → P (steps catalogue k x .seat .state)
-  unfolding steps
-  takes-before TakesSteps.none k l = absurd (omega arith)
-  takes-before (TakesSteps.first h t) zero l = h
-  takes-before (TakesSteps.first h t) (suc k) l = takes-before t k (omega arith)
+  takes-before {x = x} t k l = rw (steps-alike catalogue k x) (before-alone t k l)
 
   pub takes-times : {m n : ℕ} {x y : Clinic} → m ≡ n → TakesSteps catalogue P m x y → TakesSteps catalogue P n x y
   takes-times {x} {y} e t = subst (λ (k : ℕ). TakesSteps catalogue P k x y) e t

@@ -1,5 +1,5 @@
--- What a build that is found leaves alone, whether it is written as an example or shows an alternative: the choices, and
--- state and trial, which may be replaced before or after.
+-- What a build that is found leaves alone, whether it is written as an example or shows an alternative: the choices, the
+-- last rule broken, and state and trial, which may be replaced before or after.
 use Prim.Native.Nat.{ℕ}
 use mathlib.Core.Path.{_≡_, refl}
 use mathlib.Core.Bool.{Bool, true, false, cond}
@@ -23,6 +23,10 @@ module _ (choices : List ℕ) (i a : ℕ) (trial : List ℕ) (clinic : Clinic) w
   pub build-choices : withBuild choices i a trial clinic .seat .choices ≡ clinic .seat .choices
   unfolding withExample withAlternative
   build-choices = by-case (λ (after : Clinic). after .seat .choices ≡ clinic .seat .choices) (λ e. refl) (λ e. refl)
+
+  pub build-broken : withBuild choices i a trial clinic .seat .broken ≡ clinic .seat .broken
+  unfolding withExample withAlternative
+  build-broken = by-case (λ (after : Clinic). after .seat .broken ≡ clinic .seat .broken) (λ e. refl) (λ e. refl)
 
   pub build-moved : (state : State) (placed : List ℕ)
       → withBuild choices i a trial (moved state placed clinic) ≡ moved state placed (withBuild choices i a trial clinic)

@@ -20,7 +20,7 @@ clinicOf seat share = record { seat = seat; share = share }
 
 -- what is read past the last of some records; of no account
 abbrev pub noSeat : Seat
-noSeat = record { state = Closed; choices = []; masks = []; trial = []; alternatives = [] }
+noSeat = record { state = Closed; choices = []; masks = []; trial = []; alternatives = []; broken = 255 }
 
 -- no choices, no options placed; no options left; a share that holds nothing
 abbrev pub nothing16 : List ℕ
@@ -36,15 +36,43 @@ emptyShare = replicate 4096 255
 abbrev pub inForce : ℕ → ℕ
 inForce choice = cond (eqb choice 255) 0 (2 ^ choice)
 
--- a record with a state and choices, and nothing else in it but the options in force
+-- a record with a state and choices, and nothing else in it but the options in force; no rule was broken
 abbrev pub freshSeat : State → List ℕ → Seat
-freshSeat state choices =
-    record { state = state; choices = choices; masks = noneLeft; trial = nothing16; alternatives = map inForce choices }
+freshSeat state choices = record {
+  state = state;
+  choices = choices;
+  masks = noneLeft;
+  trial = nothing16;
+  alternatives = map inForce choices;
+  broken = 255;
+}
 
--- another state, masks, alternatives and trial; the choices as they were
+-- another state, masks, alternatives and trial; the choices, and the last rule broken, as they were
 abbrev pub seatWith : State → List ℕ → List ℕ → List ℕ → Seat → Seat
-seatWith state masks alternatives trial seat =
-    record { state = state; choices = seat .choices; masks = masks; trial = trial; alternatives = alternatives }
+seatWith state masks alternatives trial seat = record {
+  state = state;
+  choices = seat .choices;
+  masks = masks;
+  trial = trial;
+  alternatives = alternatives;
+  broken = seat .broken;
+}
+
+-- another rule as the last one broken, and all else as it was
+abbrev pub withBroken : ℕ → Clinic → Clinic
+withBroken broken clinic =
+    let seat = clinic .seat in
+    record {
+      seat = record {
+        state = seat .state;
+        choices = seat .choices;
+        masks = seat .masks;
+        trial = seat .trial;
+        alternatives = seat .alternatives;
+        broken = broken;
+      };
+      share = clinic .share;
+    }
 
 abbrev pub closedSeat : Seat
 closedSeat = freshSeat Closed nothing16

@@ -4,7 +4,7 @@ use Prim.Native.Nat.{ℕ, _≤_, _<_}
 use mathlib.Core.Path.{_≡_}
 use mathlib.Core.Bool.{true}
 use lib.ListN.{length, getD}
-use Rattle.builds.specs.Catalogue.{Catalogue, sizeOf}
+use Rattle.builds.specs.Catalogue.{Catalogue, sizeOf, rulesOf}
 use Rattle.search.specs.declared.Seat.{Seat}
 use Rattle.search.specs.declared.Place.{Place}
 use Rattle.search.specs.declared.State.the-variants.{Closed, AtWork}
@@ -33,6 +33,9 @@ pub data Misfit (catalogue : Catalogue) (seat : Seat) : Type 0 where
       → Misfit catalogue seat
   other-entry : (f : ℕ) → f < 16 → ((p : Place) → seat .state ≡ AtWork p → p .depth ≤ f) → (getD (seat .trial) f 255 ≡ 255 → ⊥)
       → Misfit catalogue seat
+  -- a last rule broken that is neither 255 nor below the rule count, or isn't 255 in a seat that is not at work
+  no-such-rule : (seat .broken ≡ 255 → ⊥) → length (rulesOf catalogue) ≤ seat .broken → Misfit catalogue seat
+  rule-not-at-work : (seat .broken ≡ 255 → ⊥) → ((p : Place) → seat .state ≡ AtWork p → ⊥) → Misfit catalogue seat
   -- a closed seat with a choice or a mask bit
   closed-choice : (f : ℕ) → seat .state ≡ Closed → f < 16 → (getD (seat .choices) f 255 ≡ 255 → ⊥) → Misfit catalogue seat
   closed-mask-bit : (f a : ℕ) → seat .state ≡ Closed → f < 16 → hasBit (getD (seat .masks) f 0) a ≡ true → Misfit catalogue seat

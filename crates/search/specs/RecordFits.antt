@@ -5,11 +5,12 @@ use mathlib.Core.List.{List}
 use lib.ListN.{length, getD}
 use lib.Dec.{ltb, eqb}
 use Rattle.builds.specs.Lists.{everyBelow}
-use Rattle.builds.specs.Catalogue.{Catalogue, sizeOf}
+use Rattle.builds.specs.Catalogue.{Catalogue, sizeOf, rulesOf}
 use Rattle.search.specs.declared.Seat.{Seat}
 use Rattle.search.specs.declared.Place.{Place}
 use Rattle.search.specs.declared.State.{State}
 use Rattle.search.specs.declared.State.the-variants.{Closed, Ready, AtWork}
+use Rattle.search.specs.Look.{isAtWork}
 
 -- A missing feature's size is read as 0, so that it has no option.
 
@@ -50,9 +51,14 @@ stateFits catalogue seat Closed = everyBelow 16 (emptyAt (seat .choices) (seat .
 stateFits catalogue seat Ready = true
 stateFits catalogue seat (AtWork p) = placeFits catalogue p
 
+-- the last rule broken is 255 for none or, at work, the number of a rule
+abbrev pub brokenFits : Catalogue → State → ℕ → Bool
+brokenFits catalogue state broken = eqb broken 255 || (isAtWork state && ltb broken (length (rulesOf catalogue)))
+
 unfoldable pub seatFits : Catalogue → Seat → Bool
 seatFits catalogue seat = everyBelow 16 (choiceFits (catalogue .sizes) (seat .choices))
     && everyBelow 16 (maskFits (catalogue .sizes) (seat .masks))
     && everyBelow 16 (alternativesFit (catalogue .sizes) (seat .choices) (seat .alternatives))
     && stateFits catalogue seat (seat .state)
     && everyBelow 16 (entryFits (catalogue .sizes) (depthOf (seat .state)) (seat .trial))
+    && brokenFits catalogue (seat .state) (seat .broken)

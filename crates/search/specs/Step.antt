@@ -7,12 +7,12 @@ use mathlib.Core.Option.{Option, none, some}
 use lib.ListN.{length, getD, set}
 use lib.Dec.{ltb, eqb}
 use Rattle.builds.specs.Catalogue.{Catalogue, rulesOf}
-use Rattle.builds.specs.Rule.{passes}
+use Rattle.builds.specs.Rule.{firstBroken, passes}
 use Rattle.search.specs.declared.Place.{Place}
 use Rattle.search.specs.declared.State.{State}
 use Rattle.search.specs.declared.State.the-variants.{Closed, Ready, AtWork}
 use Rattle.search.specs.Look.{isAtWork}
-use Rattle.search.specs.Clinic.{Clinic, nothing16, emptyShare, freshSeat, withExample, withAlternative, moved}
+use Rattle.search.specs.Clinic.{Clinic, nothing16, emptyShare, freshSeat, withExample, withAlternative, moved, withBroken}
 use Rattle.search.specs.Candidates.{firstCandidate, nextCandidate, chosenOtherwise}
 
 -- What comes of trying an option: the search goes on at a depth, with an option to be tried next there; or there is a
@@ -64,9 +64,27 @@ afterTried sizes i a clinic (goOn depth next trial) =
 afterTried sizes i a clinic (build trial) = pairEnded sizes i a (withBuild (clinic .seat .choices) i a trial clinic)
 afterTried sizes i a clinic exhausted = pairEnded sizes i a clinic
 
-unfoldable pub stepAt : Catalogue → Place → Clinic → Clinic
-stepAt catalogue p clinic = afterTried (catalogue .sizes) (p .feature) (p .option) clinic
+unfoldable pub searchAt : Catalogue → Place → Clinic → Clinic
+searchAt catalogue p clinic = afterTried (catalogue .sizes) (p .feature) (p .option) clinic
     (tried catalogue (clinic .seat .choices) (p .feature) (p .option) (p .depth) (p .next) (clinic .seat .trial))
+
+-- what the test of the option that is tried at a place names: none, or the lowest-numbered rule that it breaks
+abbrev pub testAt : Catalogue → Place → Clinic → Option ℕ
+testAt catalogue p clinic = firstBroken (rulesOf catalogue) (p .depth) (set (clinic .seat .trial) (p .depth) (p .next))
+
+-- The last rule broken in this job, after a step to this state: 255, for none, when the seat is ready; the rule that the test
+-- names, where it failed; else what stood there.
+abbrev pub brokenAfter : State → Option ℕ → ℕ → ℕ
+brokenAfter Closed test before = 255
+brokenAfter Ready test before = 255
+brokenAfter (AtWork p) none before = before
+brokenAfter (AtWork p) (some rule) before = rule
+
+-- the search goes on, and the rule that it ran into is kept
+unfoldable pub stepAt : Catalogue → Place → Clinic → Clinic
+stepAt catalogue p clinic =
+    let after = searchAt catalogue p clinic in
+    withBroken (brokenAfter (after .seat .state) (testAt catalogue p clinic) (clinic .seat .broken)) after
 
 unfoldable pub stepFrom : Catalogue → State → Clinic → Clinic
 stepFrom catalogue Closed clinic = clinic

@@ -2,15 +2,16 @@
 -- rule beside its sentence. Every pair is searched; at a feature chosen otherwise with that one choice set aside. That `step`
 -- does so wherever number 20 lets the record through is the law of proofs/StepRules.antt; that they leave nothing else open
 -- to it, that of proofs/OneOutcome.antt.
-use Prim.Native.Nat.{ℕ, _+_, _-_, _*_, _≤_, _<_}
+use Prim.Native.Nat.{ℕ, suc, _+_, _-_, _*_, _≤_, _<_}
 use mathlib.Core.Path.{_≡_}
 use mathlib.Core.Logic.{_↔_, _⊎_}
-use mathlib.Core.Bool.{true}
-use mathlib.Core.List.{List, _++_, List·Memᴰ}
+use mathlib.Core.Bool.{true, false}
+use mathlib.Core.List.{List, _∷_, _++_, List·Memᴰ}
 use lib.ListN.{length, getD, take, set, replicate}
 use Rattle.builds.specs.Lists.{Every, put}
 use Rattle.builds.specs.Rule.{Rule, satisfies}
 use Rattle.builds.specs.Catalogue.{Catalogue, rulesOf}
+use Rattle.search.specs.declared.Place.{Place}
 use Rattle.search.specs.declared.State.{State}
 use Rattle.search.specs.declared.State.the-variants.{Ready, AtWork}
 use Rattle.search.specs.Bits.{hasBit}
@@ -30,10 +31,25 @@ Least P n = P n × ((other : ℕ) → P other → n ≤ other)
 abbrev pub Greater : List ℕ → List ℕ → ℕ → ℕ → List ℕ → ℕ → ℕ → Type 0
 Greater sizes choices i a placed d w = (getD placed d 255 < w) × Candidate sizes choices i a d w
 
--- what is placed breaks no rule whose highest-numbered feature is j: j is one of its features, and none of them is above j
+-- the rule of a number, counted from 0 through the whole list
+pub data Numbered : List Rule → ℕ → Rule → Type 0 where
+  front : {rule : Rule} {rules : List Rule} → Numbered (rule ∷ rules) 0 rule
+  later : {n : ℕ} {rule other : Rule} {rules : List Rule} → Numbered rules n rule → Numbered (other ∷ rules) (suc n) rule
+
+-- what is placed breaks rule n, whose highest-numbered feature is j: j is one of its features, and none of them is above j
+pub record Breaks (catalogue : Catalogue) (j : ℕ) (placed : List ℕ) (n : ℕ) : Type 0 where
+  pub rule : Rule
+  pub is-rule : Numbered (rulesOf catalogue) n rule
+  pub tested-here : List·Memᴰ j (rule .features) × Every (λ (f : ℕ). f ≤ j) (rule .features)
+  pub broken : satisfies placed rule ≡ false
+
+-- it breaks none of those rules
 abbrev pub Passed : Catalogue → ℕ → List ℕ → Type 0
-Passed catalogue j placed = Every (λ (rule : Rule). List·Memᴰ j (rule .features) → Every (λ (f : ℕ). f ≤ j) (rule .features)
-    → satisfies placed rule ≡ true) (rulesOf catalogue)
+Passed catalogue j placed = (n : ℕ) → Breaks catalogue j placed n → ⊥
+
+-- the lowest-numbered rule that it breaks
+abbrev pub LowestBroken : Catalogue → ℕ → List ℕ → ℕ → Type 0
+LowestBroken catalogue j placed = Least (Breaks catalogue j placed)
 
 -- the pair after (i, a), i rising, then a rising within i, at depth 0 with the first candidate there; after the last,
 -- ready
@@ -84,6 +100,13 @@ pub record GoesOn (i a j v : ℕ) (placed : List ℕ) (before after : Clinic) : 
   pub kept-before : after .seat .trial ≡ take j placed ++ replicate (16 - j) 255
   pub nothing-written : NothingWritten before after
 
+-- The last rule broken in this job: none when the seat is ready; the rule that the test names, where it failed; else what
+-- stood there, also where a pair ends and the next starts.
+pub record KeepsRule (catalogue : Catalogue) (j : ℕ) (placed : List ℕ) (before after : Clinic) : Type 0 where
+  pub none-when-ready : after .seat .state ≡ Ready → after .seat .broken ≡ 255
+  pub failed : {p : Place} (n : ℕ) → after .seat .state ≡ AtWork p → LowestBroken catalogue j placed n → after .seat .broken ≡ n
+  pub passed : {p : Place} → after .seat .state ≡ AtWork p → Passed catalogue j placed → after .seat .broken ≡ before .seat .broken
+
 -- Rules 3 to 5, where an option was placed at j.
 pub record Tries (catalogue : Catalogue) (i a j : ℕ) (choices placed : List ℕ) (before after : Clinic) : Type 0 where
   -- 3. Passed and j is the last feature: the build is written as the example, bit a is set in mask i (chosen otherwise, a bit
@@ -104,5 +127,7 @@ pub record Tries (catalogue : Catalogue) (i a j : ℕ) (choices placed : List �
 pub record StepRules (catalogue : Catalogue) (i a j v : ℕ) (before after : Clinic) : Type 0 where
   -- 2. v is placed at j and tested against each rule whose highest-numbered feature is j.
   pub tries : Tries catalogue i a j (before .seat .choices) (set (before .seat .trial) j v) before after
+  -- The lowest-numbered rule that it breaks is kept.
+  pub keeps-rule : KeepsRule catalogue j (set (before .seat .trial) j v) before after
   -- Under each of them the choices stay.
   pub choices-stay : after .seat .choices ≡ before .seat .choices

@@ -21,4 +21,5 @@ pub struct Seat {
     pub masks: [u16; 16], // the options left of each feature: bit a for option a
     pub trial: [u8; 16], // the options placed before the depth; 255 from there on, and where the seat is not at work
     pub alternatives: [u16; 16], // what could replace the choice of each feature: bit a for option a; 0 where it has none
+    pub broken: u8, // the last rule that an option tried in this job broke, counted from 0; 255 for none
 }

@@ -3,11 +3,12 @@
 use Prim.Native.Nat.{ℕ, zero, suc, _+_, _*_, _≤_, _<_}
 use mathlib.Core.Path.{_≡_}
 use mathlib.Core.Bool.{Bool, cond, _&&_, _||_}
-use mathlib.Core.List.{List, [], _∷_}
+use mathlib.Core.List.{List, [], _∷_, map}
+use mathlib.Core.Option.{Option, none, some}
 use lib.ListN.{length, getD, take, drop}
 use lib.Dec.{leb, eqb}
 use Rattle.builds.specs.Lists.{Every}
-use Rattle.builds.specs.Rule.{Rule, highest, someRow}
+use Rattle.builds.specs.Rule.{Rule, highest, someRow, satisfies}
 use Rattle.builds.specs.Catalogue.{arity, width, featuresRead, rowsRead, isEmpty, ruleRead}
 
 -- the rule at the front of a list has an arity of 1 to 6 and lies in the list whole
@@ -35,26 +36,35 @@ WholeRows k list = (count : ℕ) × (k * count ≡ length list)
 abbrev pub RowTest : ℕ → List ℕ → List ℕ → Bool → Type 0
 RowTest k list options answer = (count : ℕ) → k * count ≡ length list → answer ≡ someRow (rowsRead k count list) options
 
--- where the rules begin whose highest feature is j, of at most n rules from a place in the list on
-unfoldable pub startsFrom : ℕ → List ℕ → ℕ → ℕ → List ℕ
-startsFrom zero list place j = []
-startsFrom (suc n) list place j =
+-- the rules whose highest feature is j, of at most n from a place in the list on, the first of which has this number: where
+-- each begins, and its number
+unfoldable pub testedFrom : ℕ → List ℕ → ℕ → ℕ → ℕ → List (ℕ × ℕ)
+testedFrom zero list place number j = []
+testedFrom (suc n) list place number j =
     cond (isEmpty (drop place list)) []
     (cond (eqb (highest (featuresRead (drop place list))) j)
-    (place ∷ startsFrom n list (place + width (drop place list)) j)
-    (startsFrom n list (place + width (drop place list)) j))
+    ((place, number) ∷ testedFrom n list (place + width (drop place list)) (suc number) j)
+    (testedFrom n list (place + width (drop place list)) (suc number) j))
+
+abbrev pub testedAt : List ℕ → ℕ → List (ℕ × ℕ)
+testedAt list j = testedFrom 64 list 0 0 j
 
 abbrev pub startsAt : List ℕ → ℕ → List ℕ
-startsAt list j = startsFrom 64 list 0 j
+startsAt list j = map (λ (t : ℕ × ℕ). t .0) (testedFrom 64 list 0 0 j)
 
--- the rules that begin at those places
-unfoldable pub rulesFrom : List ℕ → List ℕ → List Rule
-rulesFrom list [] = []
-rulesFrom list (place ∷ places) = ruleRead (drop place list) ∷ rulesFrom list places
+abbrev pub numbersAt : List ℕ → ℕ → List ℕ
+numbersAt list j = map (λ (t : ℕ × ℕ). t .1) (testedFrom 64 list 0 0 j)
 
--- 64 numbers for each of 16 features: where the rules begin that are tested there, and how many there are
+-- the number of the first of those rules that what is placed breaks
+unfoldable pub firstOf : List ℕ → List (ℕ × ℕ) → List ℕ → Option ℕ
+firstOf list [] placed = none
+firstOf list (t ∷ ts) placed = cond (satisfies placed (ruleRead (drop (t .0) list))) (firstOf list ts placed) (some (t .1))
+
+-- 64 numbers for each of 16 features: where the rules begin that are tested there; then, in the same way, the numbers of
+-- these rules; and how many there are
 pub record AllStarts (rules places counts : List ℕ) : Type 0 where
-  pub room : length places ≡ 1024
+  pub room : length places ≡ 2048
   pub each : length counts ≡ 16
   pub few : (j : ℕ) → j < 16 → getD counts j 0 ≤ 64
   pub are-starts : (j : ℕ) → j < 16 → take (getD counts j 0) (drop (j * 64) places) ≡ startsAt rules j
+  pub are-numbers : (j : ℕ) → j < 16 → take (getD counts j 0) (drop ((16 + j) * 64) places) ≡ numbersAt rules j
