@@ -16,7 +16,7 @@ use Rattle.runs.specs.Perform.{clinicAfter}
 use Rattle.runs.proofs.Performed.{perform-number}
 use Rattle.runs.proofs.OthersStay.{asking-leaves, asking-stays}
 use Rattle.runs.proofs.Postings as postings
-use Rattle.runs.proofs.AnyDesk.{options-answered, alternatives-answered, example-answered, reading-stays}
+use Rattle.runs.proofs.AnyDesk.{options-answered, alternatives-answered, example-answered, rule-answered, reading-stays}
 use Rattle.promises.specs.Whole.{Whole}
 use Rattle.promises.specs.Askings.{Blank, Posted, Leaves, EveryAsking}
 
@@ -28,6 +28,7 @@ closed-blank = record {
   nothing-placed = refl;
   share-filled = refl;
   in-force-alone = in-force-alone nothing16;
+  no-rule = refl;
 }
 
 pub posted-so : (sizes choices : List ℕ) → Posted choices (posted sizes choices)
@@ -40,6 +41,7 @@ posted-so sizes choices =
       nothing-placed = refl;
       share-filled = refl;
       in-force-alone = in-force-alone choices;
+      no-rule = refl;
     }
 
 leaves : (catalogue : Catalogue) (room : Room) → Whole room → (c : ℕ) (asking : Asking) (clinic : Clinic) (So : Clinic → Type 0)
@@ -64,6 +66,7 @@ every-asking catalogue room whole c =
       options = options-answered catalogue room c;
       alternatives = alternatives-answered catalogue room c;
       example = example-answered catalogue room c;
+      ran-into = rule-answered catalogue room c;
       reading-stays = reading-stays catalogue room c;
       others-stay = λ asking d l other. asking-stays catalogue room (whole .eight) (whole .board-length) c asking d other;
     }

@@ -6,13 +6,13 @@
 use Prim.Native.Nat.{ℕ, _<_}
 use mathlib.Core.Path.{_≡_, refl, sym, ap, _∙_, subst}
 use mathlib.Core.Logic.{_↔_, _⊎_, inl, inr}
-use mathlib.Core.Bool.{Bool, true, false}
+use mathlib.Core.Bool.{Bool, true, false, true≢false}
 use mathlib.Core.List.{List}
 use native.Mathlib.Omega.{arith}
 use lib.ListN.{length, getD, List·getD-eq-default}
 use lib.Seq.{ext-getD}
-use lib.Dec.{ltb}
-use borrow.Author.Tests.{ltb-true, ltb-false, eq-eqb}
+use lib.Dec.{ltb, eqb}
+use borrow.Author.Tests.{ltb-true, ltb-false, eq-eqb, eqb-true, eqb-false}
 use Rattle.builds.specs.Rule.{optionAt}
 use Rattle.builds.specs.Catalogue.{Catalogue}
 use Rattle.builds.specs.Fault.{faultOf}
@@ -22,6 +22,7 @@ use Rattle.builds.proofs.Padded.{nothing-there}
 use Rattle.search.specs.Bits.{hasBit}
 use Rattle.search.specs.Clinic.{Clinic, nothing16, noneLeft}
 use Rattle.search.specs.Step.{step, steps, posted}
+use Rattle.search.specs.Look.{isAtWork}
 use Rattle.search.specs.Count.{jobSteps}
 use Rattle.search.proofs.SearchPremises.{ChoicesFit}
 use Rattle.search.proofs.PairSteps.{same-again}
@@ -168,6 +169,16 @@ module _ (catalogue : Catalogue) (fault : faultOf catalogue ≡ 0) where
     posted = λ clinic fits before asking rows choices e i x chosen some. in-force-alone choices i x .1 (chosen, some);
   }
 
+pub none-at-rest : (catalogue : Catalogue) (clinic : Clinic) → ClinicFits catalogue clinic → isAtWork (clinic .seat .state) ≡ false
+    → clinic .seat .broken ≡ 255
+none-at-rest catalogue clinic fits rests = go (eqb (clinic .seat .broken) 255) refl
+  where
+    go : (t : Bool) → eqb (clinic .seat .broken) 255 ≡ t → clinic .seat .broken ≡ 255
+    go true e = eqb-true (clinic .seat .broken) 255 e
+    go false e =
+        let working = seat-fits catalogue (clinic .seat) (fits .fits) .rule-within (eqb-false (clinic .seat .broken) 255 e) .0 in
+        absurd (true≢false (sym working ∙ rests))
+
 pub every-run : (catalogue : Catalogue) (board : List ℕ) → Opened catalogue board → (calls : List Call) (c : ℕ) → c < 8
     → InARun catalogue (moment catalogue board calls) c
 every-run catalogue board opened calls c seat-below =
@@ -189,4 +200,6 @@ every-run catalogue board opened calls c seat-below =
       in-force-counts =
           at-every-moment catalogue board opened InForceCounts (in-force-lasts catalogue fault) calls c seat-below;
       none-replaced = none-replaced catalogue clinic fits;
+      a-rule = λ some-rule. seat-fits catalogue (clinic .seat) (fits .fits) .rule-within some-rule .1;
+      none-at-rest = none-at-rest catalogue clinic fits;
     }

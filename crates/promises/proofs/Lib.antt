@@ -21,6 +21,7 @@ pub mod OptionsLeft
 pub mod Openings
 pub mod Possible
 pub mod InARun
+pub mod RanInto
 pub mod Throughout
 pub mod Replacing
 pub mod Turns

@@ -18,7 +18,7 @@ use Rattle.search.specs.declared.State.the-variants.{Closed, Ready, AtWork}
 use Rattle.search.specs.Look.{isClosed, isLeft}
 use Rattle.runs.specs.declared.Asking.{Asking}
 use Rattle.runs.specs.declared.Asking.the-variants.{Enter, Leave, Choose, Relax, Read}
-use Rattle.runs.specs.declared.Reading.the-variants.{Options, Alternatives, Example}
+use Rattle.runs.specs.declared.Reading.the-variants.{Options, Alternatives, Example, RanInto}
 use Rattle.runs.specs.Room.{Room, seatAt}
 use Rattle.runs.specs.Call.{Call, asks, turns}
 use Rattle.runs.specs.RefusalTable.{askedRows}
@@ -52,6 +52,10 @@ module _ (catalogue : Catalogue) (fault : faultOf catalogue ≡ 0) (room : Room)
   leaving : (seatIn room c .state ≡ Closed → ⊥) → IsDone catalogue room (asks c Leave)
   unfolding member
   leaving not-closed = rows-pass Leave (rw (open-seat (seatIn room c .state) not-closed) refl)
+
+  pub asking-rule : (seatIn room c .state ≡ Closed → ⊥) → IsDone catalogue room (asks c (Read RanInto))
+  unfolding member
+  asking-rule not-closed = rows-pass (Read RanInto) (rw (open-seat (seatIn room c .state) not-closed) refl)
 
   module _
       (ready : seatIn room c .state ≡ Ready)
@@ -92,6 +96,7 @@ every-possible catalogue board opened calls c l =
     record {
       enter = entering catalogue fault room sound c l;
       leave = leaving catalogue fault room sound c l;
+      ran-into = asking-rule catalogue fault room sound c l;
       ready = λ ready i feature.
           when-ready catalogue fault room sound c l ready i feature (options-left catalogue board calls c l ready);
       turning = λ w. perform-number catalogue (turns w) room ∙ turns-accepted catalogue fault room sound w;

@@ -31,7 +31,7 @@ module _ (catalogue : Catalogue) (room : Room) (fits : DeskMisfit catalogue (roo
   not-20 (Sentence.seat-above-7 l) e = omega (arith, e)
   not-20 (Sentence.seat-closed other s) e = omega (arith, e)
   not-20 (Sentence.seat-open s) e = omega (arith, e)
-  not-20 (Sentence.seat-at-work not-enter not-leave s) e = omega (arith, e)
+  not-20 (Sentence.seat-at-work not-enter not-leave not-ran-into s) e = omega (arith, e)
   not-20 (Sentence.no-such-feature named l) e = omega (arith, e)
   not-20 (Sentence.no-such-option named l) e = omega (arith, e)
   not-20 (Sentence.has-a-choice s) e = omega (arith, e)

@@ -2,13 +2,14 @@
 use Prim.Native.Nat.{ℕ, _<_}
 use mathlib.Core.Path.{_≡_}
 use mathlib.Core.Logic.{_↔_}
-use mathlib.Core.Bool.{true}
+use mathlib.Core.Bool.{true, false}
 use mathlib.Core.List.{List}
 use lib.ListN.{length, getD}
-use Rattle.builds.specs.Catalogue.{Catalogue}
+use Rattle.builds.specs.Catalogue.{Catalogue, rulesOf}
 use Rattle.builds.specs.Build.{IsBuild}
 use Rattle.search.specs.declared.State.the-variants.{Ready}
 use Rattle.search.specs.Bits.{hasBit}
+use Rattle.search.specs.Look.{isAtWork}
 use Rattle.search.specs.Clinic.{nothing16, noneLeft, emptyShare}
 use Rattle.runs.specs.Room.{Room, shareAt}
 use Rattle.promises.specs.Moment.{seatIn}
@@ -30,3 +31,6 @@ pub record InARun (catalogue : Catalogue) (room : Room) (c : ℕ) : Type 0 where
   pub in-force-counts : (i x : ℕ) → getD (seatIn room c .choices) i 255 ≡ x → (x ≡ 255 → ⊥)
       → hasBit (getD (seatIn room c .alternatives) i 0) x ≡ true
   pub none-replaced : (i : ℕ) → getD (seatIn room c .choices) i 255 ≡ 255 → getD (seatIn room c .alternatives) i 0 ≡ 0
+  -- the last rule broken is one of the catalogue, and a seat that is not at work has none
+  pub a-rule : (seatIn room c .broken ≡ 255 → ⊥) → seatIn room c .broken < length (rulesOf catalogue)
+  pub none-at-rest : isAtWork (seatIn room c .state) ≡ false → seatIn room c .broken ≡ 255

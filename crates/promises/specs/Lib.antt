@@ -7,6 +7,7 @@ pub mod Askings
 pub mod Turns
 pub mod OptionsLeft
 pub mod Jobs
+pub mod RanInto
 pub mod Replacing
 pub mod TwoRuns
 pub mod Possible

@@ -26,6 +26,7 @@ pub record Openings (catalogue : Catalogue) (board : List ℕ) : Type 0 where
       masks = replicate 16 0;
       trial = replicate 16 255;
       alternatives = replicate 16 0;
+      broken = 255;
     });
     next = 0;
   }

@@ -7,7 +7,7 @@ use Rattle.builds.specs.Catalogue.{Catalogue}
 use Rattle.builds.specs.Gic.{Gic}
 use Rattle.search.specs.declared.State.the-variants.{Closed, Ready}
 use Rattle.runs.specs.declared.Asking.the-variants.{Enter, Leave, Choose, Relax, Read}
-use Rattle.runs.specs.declared.Reading.the-variants.{Options, Alternatives, Example}
+use Rattle.runs.specs.declared.Reading.the-variants.{Options, Alternatives, Example, RanInto}
 use Rattle.runs.specs.Room.{Room}
 use Rattle.runs.specs.Call.{asks, turns}
 use Rattle.promises.specs.Moment.{IsDone, seatIn}
@@ -23,5 +23,6 @@ pub record WhenReady (catalogue : Catalogue) (room : Room) (c i : ℕ) : Type 0 
 pub record Possible (catalogue : Catalogue) (room : Room) (c : ℕ) : Type 0 where
   pub enter : seatIn room c .state ≡ Closed → IsDone catalogue room (asks c Enter)
   pub leave : (seatIn room c .state ≡ Closed → ⊥) → IsDone catalogue room (asks c Leave)
+  pub ran-into : (seatIn room c .state ≡ Closed → ⊥) → IsDone catalogue room (asks c (Read RanInto))
   pub ready : seatIn room c .state ≡ Ready → (i : ℕ) → i < length (catalogue .sizes) → WhenReady catalogue room c i
   pub turning : (w : ℕ) → IsDone catalogue room (turns w)

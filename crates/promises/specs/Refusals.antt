@@ -21,5 +21,7 @@ pub record Refusals : Type 0 where
       → (perform catalogue call room .answer .number ≡ r) ↔ FirstOf (Sentence catalogue room call) r
   -- desk and board as they came, with numbers 0, no seat at work reported, and an example of length 0
   pub changes-nothing : (catalogue : Catalogue) (call : Call) (room : Room) (r : ℕ) → (r ≡ 0 → ⊥)
-      → perform catalogue call room .answer .number ≡ r → perform catalogue call room
-      ≡ record { answer = record { number = r; mask = 0; count = 0; bytes = []; made = 0; working = false }; room = room }
+      → perform catalogue call room .answer .number ≡ r → perform catalogue call room ≡ record {
+        answer = record { number = r; mask = 0; count = 0; bytes = []; made = 0; working = false; rule = 0 };
+        room = room;
+      }
