@@ -6,36 +6,46 @@ ghost use mathlib.Core.Bool.{true};
 ghost use mathlib.Core.List.{map};
 ghost use Prim.Native.Nat.{_≤_, _<_};
 ghost use lib.ListN.{length, getD, replicate};
-ghost use Rattle.builds.specs.Rule.{highest, matches, optionAt, satisfies, passes};
+ghost use Rattle.builds.specs.Rule.{highest, matches, optionAt, satisfies, firstBroken};
 ghost use Rattle.builds.specs.Catalogue.{featuresRead, ruleRead, rulesRead};
-ghost use Rattle.builds.specs.inner.Starts.{wholeRule, wholeRules, EachBelow, FeaturesBelow, WholeRows, RowTest, startsAt, AllStarts};
+ghost use Rattle.builds.specs.inner.Starts.{wholeRule, wholeRules, EachBelow, FeaturesBelow, WholeRows, RowTest};
+ghost use Rattle.builds.specs.inner.Starts.{startsAt, numbersAt, AllStarts};
+ghost use Rattle.placed.specs.Tested.{ruleBroken};
 
-// Whether what is placed passes the test at feature j: it satisfies each rule whose highest-numbered feature is j.
-pub fn passes(rules: &[u16], j: usize, starts: &[u16], placed: &[u8]) -> bool
+// What the test of an option that was placed comes to.
+pub enum Tested {
+    Passed,
+    Broke(u8), // the lowest-numbered rule that was broken
+}
+
+// The test of what is placed at feature j, against each rule whose highest-numbered feature is j. Rules are numbered through
+// the whole list, so the number that is answered was noted beside where the rule begins.
+pub fn test(rules: &[u16], j: usize, starts: &[u16], numbers: &[u16], placed: &[u8]) -> Tested
     requires { ⌜ wholeRules 64 (now rules) ≡ true ⌝ }
-    requires { ⌜ now starts ≡ startsAt (now rules) j ⌝ }
+    requires { ⌜ (now starts ≡ startsAt (now rules) j) × (now numbers ≡ numbersAt (now rules) j) ⌝ }
     requires { ⌜ FeaturesBelow (length (now placed)) (rulesRead 64 (now rules)) ⌝ }
-    ensures { λ r. ⌜ r ≡ passes (rulesRead 64 (now (rules .entry))) j (now (placed .entry)) ⌝ }
+    ensures { λ r. ⌜ ruleBroken r ≡ firstBroken (rulesRead 64 (now (rules .entry))) j (now (placed .entry)) ⌝ }
 {
     let mut i = 0;
     while i < starts.len() {
         let place = wide(starts[i]);
         if !satisfied(&rules[place..], placed) {
-            return false;
+            return Tested::Broke((numbers[i] % 256) as u8); // a number is below 64
         }
         i += 1;
     }
-    true
+    Tested::Passed
 }
 
-// Notes where the rules begin that are tested at each feature, in one walk over the list: 64 places a feature, of which
-// `counts` are used. Both are lent, so that they are written where they are read.
-pub fn starts_of(rules: &[u16], places: &mut [u16; 1024], counts: &mut [u8; 16])
+// Notes which rules are tested at each feature, in one walk over the list: 64 places a feature for where they begin, then
+// as many for their numbers, of which `counts` are used. Both are lent, so that they are written where they are read.
+pub fn starts_of(rules: &[u16], places: &mut [u16; 2048], counts: &mut [u8; 16])
     requires { ⌜ (wholeRules 64 (now rules) ≡ true) × (length (now rules) ≤ 8192) ⌝ }
-    requires { ⌜ (length (now places) ≡ 1024) × (now counts ≡ replicate 16 0) ⌝ }
+    requires { ⌜ (length (now places) ≡ 2048) × (now counts ≡ replicate 16 0) ⌝ }
     ensures { λ r. ⌜ AllStarts (now (rules .entry)) (now (places .exit)) (now (counts .exit)) ⌝ }
 {
     let mut place = 0;
+    let mut number = 0u16;
     while place < rules.len() {
         let rest = &rules[place..];
         let k = wide(rest[0]);
@@ -45,9 +55,11 @@ pub fn starts_of(rules: &[u16], places: &mut [u16; 1024], counts: &mut [u8; 16])
         if feature < 16 {
             let count = counts[feature] as usize;
             places[feature * 64 + count] = (place % 65536) as u16; // a place is below 8,192
+            places[(16 + feature) * 64 + count] = number;
             counts[feature] = ((count + 1) % 256) as u8; // a count is at most 64
         }
         place += body + k * m;
+        number += 1;
     }
 }
 

@@ -1,25 +1,26 @@
--- Of each feature, the places noted, followed by those of the rules that are left, are all of them; each rule lies whole in
--- the list, so that the walk goes from rule to rule.
+-- Of each feature, the rules noted, followed by those that are left, are all of them; each rule lies whole in the list, so that
+-- the walk goes from rule to rule.
 use Prim.Native.Nat.{ℕ, _≤_, _<_, _+_, _-_, _*_, _%_}
 use mathlib.Core.Path.{_≡_, refl, sym, ap}
 use mathlib.Core.Logic.{⊎-elim}
 use mathlib.Core.List.{List}
+use native.Mathlib.Numerals.{add-one}
 use native.Mathlib.Omega.{arith}
 use lib.ListN.{length, take, drop, length-drop, getD}
 use Rattle.builds.specs.Rule.{highest}
 use Rattle.builds.specs.Catalogue.{arity, width, featuresRead}
 use Rattle.builds.proofs.ListWalks.{left-lent}
 use Rattle.builds.proofs.WholeRule.{WholeRule}
-use Rattle.builds.proofs.AllStarts.{Noted, none-noted, whole-now, below-64, note, pass-over, all-noted}
+use Rattle.builds.proofs.AllStarts.{Noted, none-noted, whole-now, below-64, number-below-64, note, pass-over, all-noted}
 use borrow.Author.Needs.{needs}
 use Rattle.placed.proofs.rules.starts_of.Statement.{statement}
 use Rattle.placed.proofs.rules.starts_of.Tie as tie
 
 abbrev Inv-loop : tie.InvT-loop
-Inv-loop rules places₀ counts₀ place₀ places counts place = Noted rules places counts place
+Inv-loop rules places₀ counts₀ place₀ number₀ places counts place number = Noted rules places counts place number
 
 abbrev μ-loop : tie.MeasureT-loop
-μ-loop rules places₀ counts₀ place₀ places counts place = length rules - place
+μ-loop rules places₀ counts₀ place₀ number₀ places counts place number = length rules - place
 
 loop-holds : tie.Need-loop-holds Inv-loop μ-loop
 loop-holds c = let pre = c .before .pre in none-noted _ _ _ (pre .0 .0) (pre .1 .0) (pre .1 .1)
@@ -119,6 +120,21 @@ mul-places-2 c = omega (arith, count-low c)
 element-write-places : tie.Need-element-write-places Inv-loop μ-loop
 element-write-places c = omega (arith, count-low c)
 
+add-places-2 : tie.Need-add-places-2 Inv-loop μ-loop
+add-places-2 c = search needs
+
+mul-places-3 : tie.Need-mul-places-3 Inv-loop μ-loop
+mul-places-3 c = search needs
+
+add-places-3 : tie.Need-add-places-3 Inv-loop μ-loop
+add-places-3 c = omega (arith, count-low c)
+
+mul-places-4 : tie.Need-mul-places-4 Inv-loop μ-loop
+mul-places-4 c = omega (arith, count-low c)
+
+element-write-places-2 : tie.Need-element-write-places-2 Inv-loop μ-loop
+element-write-places-2 c = omega (arith, count-low c)
+
 add-counts : tie.Need-add-counts Inv-loop μ-loop
 add-counts c = omega (arith, count-low c)
 
@@ -143,6 +159,11 @@ add-place c = omega (arith, next-place c)
 add-place-2 : tie.Need-add-place-2 Inv-loop μ-loop
 add-place-2 c = omega (arith, next-place c)
 
+add-number : tie.Need-add-number Inv-loop μ-loop
+add-number c =
+    let turn = c .before .before .before .before .before .before .before .before in
+    omega (arith, number-below-64 (turn .before .loop .inv) (turn .loop-test .taken))
+
 loop-less : tie.Need-loop-less Inv-loop μ-loop
 loop-less c = search needs
 
@@ -154,12 +175,14 @@ loop-again c =
     let read = highest-read (c .before) in
     let next = width-read (c .before .before .before) in
     let small : l .place % 65536 ≡ l .place = omega arith in
+    let feature = c .before .highest .result in
+    let count = getD (l .counts) feature 0 in
     ⊎-elim
     (λ w.
-    let low = below-64 (l .inv) test (c .before .highest .result) (w .0 .taken) in
-    let fits : (getD (l .counts) (c .before .highest .result) 0 + 1) % 256 ≡ getD (l .counts) (c .before .highest .result) 0 + 1 = omega arith in
-    rw (w .2, w .3, small, fits, next) (note (l .inv) test (c .before .highest .result) (getD (l .counts) (c .before .highest .result) 0) (w .0 .taken) refl (sym read)))
-    (λ w. rw (w .1, w .2, next) (pass-over (l .inv) test (omega (arith, read, w .0 .left))))
+    let low = below-64 (l .inv) test feature (w .0 .taken) in
+    let fits : (count + 1) % 256 ≡ count + 1 = omega arith in
+    rw (w .2, w .3, small, fits, next, add-one (l .number)) (note (l .inv) test feature count (w .0 .taken) refl (sym read)))
+    (λ w. rw (w .1, w .2, next, add-one (l .number)) (pass-over (l .inv) test (omega (arith, read, w .0 .left))))
     (c .if1 .came)
 
 returns : tie.Need-returns Inv-loop μ-loop
@@ -192,12 +215,18 @@ starts-of-spec =
     add-places
     mul-places-2
     element-write-places
+    add-places-2
+    mul-places-3
+    add-places-3
+    mul-places-4
+    element-write-places-2
     add-counts
     cast-counts
     element-write-counts
     mul-place
     add-place
     add-place-2
+    add-number
     loop-less
     loop-again
     returns)
