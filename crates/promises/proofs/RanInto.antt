@@ -110,22 +110,28 @@ module _ (catalogue : Catalogue) (fault : faultOf catalogue ≡ 0) (start : Clin
 
     still-says : Passed catalogue (p .depth) placed → (rule : ℕ) → Says catalogue start n rule → Says catalogue start (n + 1) rule
     still-says passed rule (inl none-so-far) = inl (none-so-far .0, more-none 0 passed (none-so-far .1))
-    still-says passed rule (inr (some-rule, last)) = inr (some-rule, record {
-      number = last .number;
-      is-made = omega (arith, last .is-made);
-      broke-it = last .broke-it;
-      none-since = more-none (last .number + 1) passed (last .none-since);
-    })
+    still-says passed rule (inr (some-rule, last)) = inr (
+      some-rule,
+      record {
+        number = last .number;
+        is-made = omega (arith, last .is-made);
+        broke-it = last .broke-it;
+        none-since = more-none (last .number + 1) passed (last .none-since);
+      },
+    )
 
     newly-says : (rule : ℕ) → firstBroken (rulesOf catalogue) (p .depth) placed ≡ some rule → Says catalogue start (n + 1) rule
     newly-says rule named =
         let below = named-below (p .depth) placed (rulesOf catalogue) rule named in
-        inr (λ e. absurd (omega (arith, e, below, few-rules catalogue)), record {
-          number = n;
-          is-made = omega arith;
-          broke-it = record { place = p; at-work = at-work; lowest = lowest-named (p .depth) placed catalogue fault rule named };
-          none-since = λ m other l h into. absurd (omega arith);
-        })
+        inr (
+          λ e. absurd (omega (arith, e, below, few-rules catalogue)),
+          record {
+            number = n;
+            is-made = omega arith;
+            broke-it = record { place = p; at-work = at-work; lowest = lowest-named (p .depth) placed catalogue fault rule named };
+            none-since = λ m other l h into. absurd (omega arith);
+          },
+        )
 
     says-next : isAtWork (step catalogue (now n) .seat .state) ≡ true → Says catalogue start n (now n .seat .broken)
         → Says catalogue start (n + 1) (step catalogue (now n) .seat .broken)

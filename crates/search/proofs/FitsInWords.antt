@@ -169,6 +169,8 @@ module _ (catalogue : Catalogue) (seat : Seat) where
       let entries = below-every (entryFits (catalogue .sizes) (depthOf (seat .state)) (seat .trial)) 16
       (λ (f : ℕ) (l : f < 16). entry-within f (depthOf (seat .state)) (getD (seat .trial) f 255) (sizeOf catalogue f) (fits .placed-below f l) (fits .nothing-from f l)) in
       let rule = fits-rule (seat .state) (seat .broken) (fits .rule-within) in
-      and-eq-true-iff _ _ .1
-      (and-eq-true-iff _ _ .1
-      (and-eq-true-iff _ _ .1 (and-eq-true-iff _ _ .1 (and-eq-true-iff _ _ .1 (choices, masks), alternatives), state), entries), rule)
+      and-eq-true-iff _ _ .1 (
+        and-eq-true-iff _ _ .1
+            (and-eq-true-iff _ _ .1 (and-eq-true-iff _ _ .1 (and-eq-true-iff _ _ .1 (choices, masks), alternatives), state), entries),
+        rule,
+      )

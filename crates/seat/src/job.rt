@@ -49,7 +49,7 @@ fn close(share: &mut [u8]) -> Seat
     closed()
 }
 
-// A closed seat has no choices, empty masks, no trial and no alternatives.
+// A closed seat has no choices, empty masks, no trial, no alternatives, and has run into no rule.
 pub fn closed() -> Seat
     ensures { λ r. ⌜ r ≡ closedSeat ⌝ }
 {
@@ -59,10 +59,11 @@ pub fn closed() -> Seat
         masks: [0u16; 16],
         trial: [255u8; 16],
         alternatives: [0u16; 16],
+        broken: 255,
     }
 }
 
-// Masks emptied, but for the options in force among the alternatives; share filled with 255; pair (0, 0).
+// Masks emptied, but for the options in force among the alternatives; share filled with 255; no rule broken; pair (0, 0).
 fn post(choices: [u8; 16], share: &mut [u8], sizes: &[u8]) -> Seat
     requires { ⌜ (length (now share) ≡ 4096) × (1 ≤ getD (now sizes) 0 0) ⌝ }
     requires { ⌜ (length choices ≡ 16) × HaveBits choices ⌝ }
@@ -76,6 +77,7 @@ fn post(choices: [u8; 16], share: &mut [u8], sizes: &[u8]) -> Seat
         masks: [0u16; 16],
         trial: [255u8; 16],
         alternatives: in_force(choices),
+        broken: 255,
     }
 }
 

@@ -2,6 +2,7 @@
 use arrays::masks_after;
 use arrays::trial_after;
 use numbers::byte;
+use placed::Tested;
 use search::Place;
 use search::Seat;
 use search::State;
@@ -13,11 +14,15 @@ use seat::write_example;
 ghost use mathlib.Core.Path.{_≡_};
 ghost use Prim.Native.Nat.{ℕ, _+_, _<_, _≤_};
 ghost use lib.ListN.{length, getD, set};
-ghost use Rattle.builds.specs.Catalogue.{catalogueOf};
+ghost use Rattle.builds.specs.Catalogue.{catalogueOf, rulesOf};
+ghost use Rattle.builds.specs.Rule.{firstBroken};
+ghost use Rattle.builds.specs.Fault.{faultOf};
+ghost use Rattle.builds.specs.inner.Starts.{AllStarts};
+ghost use Rattle.placed.specs.Tested.{ruleBroken};
 ghost use Rattle.search.specs.declared.State.the-variants.{AtWork};
 ghost use Rattle.search.specs.Candidates.{chosenOtherwise};
 ghost use Rattle.search.specs.Clinic.{clinicOf};
-ghost use Rattle.search.specs.Step.{givenUp, tried, started, afterPair, stepAt};
+ghost use Rattle.search.specs.Step.{givenUp, tried, started, afterPair, brokenAfter, stepAt};
 ghost use Rattle.search.specs.inner.Placed.{keptBefore, PlacedAt};
 ghost use Rattle.step.specs.inner.StepContracts.{triedOf, depthIn, StepNeeds, Stepped, TryNeeds, ComesTo};
 
@@ -85,16 +90,9 @@ fn step_at(
     let mut placed = trial;
     let j = place.depth as usize;
     placed[j] = place.next;
-    let after = after_step(
-        place,
-        &choices,
-        &placed,
-        share,
-        sizes,
-        rules,
-        places,
-        counts,
-    );
+    let build: &[u8] = &placed;
+    let tested = tested_at(j, build, sizes, rules, places, counts);
+    let after = after_step(place, tested, &choices, build, share, sizes, rules);
     let state = after.state;
     Seat {
         state,
@@ -102,6 +100,48 @@ fn step_at(
         masks: masks_after(masks, place.feature, place.option, after.left),
         trial: trial_after(trial, edge, place.depth, place.next, after.depth),
         alternatives: masks_after(alternatives, place.feature, place.option, after.alternative),
+        broken: broken_after(state, tested, seat.broken),
+    }
+}
+
+// Rule 2: what is placed, the option to be tried at depth j with it, is tested against each rule whose highest-numbered
+// feature is j.
+fn tested_at(
+    j: usize,
+    placed: &[u8],
+    sizes: &[u8],
+    rules: &[u16],
+    places: &[u16],
+    counts: &[u8],
+) -> Tested
+    requires { ⌜ (faultOf (catalogueOf (now sizes) (now rules)) ≡ 0) × AllStarts (now rules) (now places) (now counts) ⌝ }
+    requires { ⌜ (j < 16) × (length (now placed) ≡ 16) ⌝ }
+    ensures { λ r. ⌜ ruleBroken r
+        ≡ firstBroken (rulesOf (catalogueOf (now (sizes .entry)) (now (rules .entry)))) j (now (placed .entry)) ⌝ }
+{
+    let count = byte(counts[j]);
+    let starts = j * 64;
+    let numbers = (16 + j) * 64;
+    placed::test(
+        rules,
+        j,
+        &places[starts..starts + count],
+        &places[numbers..numbers + count],
+        placed,
+    )
+}
+
+// The last rule broken in this job, after a step to a state: a test that failed names it, and a seat that is ready has none.
+fn broken_after(state: State, tested: Tested, before: u8) -> u8
+    ensures { λ r. ⌜ r ≡ brokenAfter state (ruleBroken tested) before ⌝ }
+{
+    match state {
+        State::Closed => 255,
+        State::Ready => 255,
+        State::AtWork(_) => match tested {
+            Tested::Passed => before,
+            Tested::Broke(rule) => rule,
+        },
     }
 }
 
@@ -109,16 +149,14 @@ fn step_at(
 // the example, but for one at a feature chosen otherwise: its option is no more than an alternative.
 fn after_step(
     place: Place,
+    tested: Tested,
     choices: &[u8],
     placed: &[u8],
     share: &mut [u8],
     sizes: &[u8],
     rules: &[u16],
-    places: &[u16],
-    counts: &[u8],
 ) -> After
-    requires { ⌜ TryNeeds (catalogueOf (now sizes) (now rules)) place
-        (now choices) (now placed) (now places) (now counts) ⌝ }
+    requires { ⌜ TryNeeds (catalogueOf (now sizes) (now rules)) place tested (now choices) (now placed) ⌝ }
     requires { ⌜ length (now share) ≡ 4096 ⌝ }
     ensures { λ r. ⌜ r .depth ≤ place .depth + 1 ⌝ }
     ensures { λ r. ⌜ ComesTo (catalogueOf (now (sizes .entry)) (now (rules .entry))) place
@@ -126,7 +164,7 @@ fn after_step(
 {
     let feature = place.feature;
     let option = place.option;
-    let way = try_next(place, choices, placed, sizes, rules, places, counts);
+    let way = try_next(place, tested, choices, placed, sizes, rules);
     match way {
         Way::GoOn { depth, next } => {
             let state = State::AtWork(Place {
@@ -168,19 +206,16 @@ fn chosen_otherwise(choices: &[u8], feature: u8, option: u8) -> bool
     choice != option
 }
 
-// Rules 2 to 5: what is placed, the option to be tried at the depth with it, is tested against each rule whose
-// highest-numbered feature is the depth.
+// Rules 3 to 5, by what the test of the option came to.
 fn try_next(
     place: Place,
+    tested: Tested,
     choices: &[u8],
     placed: &[u8],
     sizes: &[u8],
     rules: &[u16],
-    places: &[u16],
-    counts: &[u8],
 ) -> Way
-    requires { ⌜ TryNeeds (catalogueOf (now sizes) (now rules)) place
-        (now choices) (now placed) (now places) (now counts) ⌝ }
+    requires { ⌜ TryNeeds (catalogueOf (now sizes) (now rules)) place tested (now choices) (now placed) ⌝ }
     ensures { λ r. ⌜ depthIn r ≤ place .depth + 1 ⌝ }
     ensures { λ r. ⌜ triedOf r (now (placed .entry))
         ≡ tried (catalogueOf (now (sizes .entry)) (now (rules .entry))) (now (choices .entry)) (place .feature)
@@ -190,10 +225,11 @@ fn try_next(
     let option = place.option;
     let i = place.feature as usize;
     let j = depth as usize;
-    let from = j * 64;
-    let to = from + byte(counts[j]);
-    if !placed::passes(rules, j, &places[from..to], placed) {
-        return given_up(sizes, choices, i, option, depth, placed);
+    match tested {
+        Tested::Broke(_) => {
+            return given_up(sizes, choices, i, option, depth, placed);
+        }
+        Tested::Passed => {}
     }
     if j + 1 == sizes.len() {
         return Way::Build;

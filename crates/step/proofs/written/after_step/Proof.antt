@@ -13,7 +13,7 @@ use Rattle.search.specs.declared.Seat.{Seat}
 use Rattle.step.specs.declared.written.Way.{Way}
 use Rattle.search.specs.Clinic.{clinicOf, withExample, withAlternative}
 use Rattle.search.specs.Candidates.{chosenOtherwise}
-use Rattle.search.specs.Step.{pairEnded, afterTried, stepAt, tried}
+use Rattle.search.specs.Step.{pairEnded, afterTried, searchAt, tried}
 use Rattle.search.specs.inner.Placed.{keptBefore}
 use Rattle.step.specs.inner.StepContracts.{triedOf}
 use Rattle.search.proofs.FitsInWords.{PlaceFits, place-fits}
@@ -45,9 +45,9 @@ otherwise c choices = chosenOtherwise choices (c .args .place .feature) (c .args
 step-tries : (catalogue : Catalogue) (p : Place) (choices placed : List ℕ) (way : Way)
     → triedOf way placed ≡ tried catalogue choices (p .feature) (p .option) (p .depth) (p .next) (keptBefore (p .depth) placed)
     → (seat : Seat) (share : List ℕ) → seat .choices ≡ choices → seat .trial ≡ keptBefore (p .depth) placed
-    → stepAt catalogue p (clinicOf seat share)
+    → searchAt catalogue p (clinicOf seat share)
     ≡ afterTried (catalogue .sizes) (p .feature) (p .option) (clinicOf seat share) (triedOf way placed)
-unfolding stepAt
+unfolding searchAt
 step-tries catalogue p choices placed way came seat share chosen-so trial-so = rw (chosen-so, trial-so, came) refl
 
 try-next-requires : tie.Need-try-next-requires
@@ -57,14 +57,14 @@ enum-known-way : tie.Need-enum-known-way
 enum-known-way c = search needs
 
 -- the step, by the way that trying the option comes to
-tried-so : (c : tie.After-try-next) → let start = c .before .before .before .before .before .before .before .before in
+tried-so : (c : tie.After-try-next) → let start = c .before .before .before .before .before .before in
     (seat : Seat) → seat .choices ≡ start .args .choices .now
     → seat .trial ≡ keptBefore (start .args .place .depth) (start .args .placed .now)
-    → stepAt (catalogue start) (start .args .place) (clinicOf seat (start .args .share .now))
+    → searchAt (catalogue start) (start .args .place) (clinicOf seat (start .args .share .now))
     ≡ afterTried (start .args .sizes .now) (start .args .place .feature) (start .args .place .option)
     (clinicOf seat (start .args .share .now)) (triedOf (c .try-next .result) (start .args .placed .now))
 tried-so c seat =
-    let start = c .before .before .before .before .before .before .before .before in
+    let start = c .before .before .before .before .before .before in
     step-tries (catalogue start) (start .args .place) (start .args .choices .now) (start .args .placed .now) (c .try-next .result)
     (c .try-next .ensures .1) seat (start .args .share .now)
 
@@ -73,18 +73,18 @@ enum-told c = search needs
 
 chosen-otherwise-requires : tie.Need-chosen-otherwise-requires
 chosen-otherwise-requires c κs =
-    let start = c .before .before .before .before .before .before .before .before .before .before in
+    let start = c .before .before .before .before .before .before .before .before in
     rw (start .pre .0 .sixteen-choices) (feature-below-16 (catalogue start) (start .pre .0 .no-fault) (within start))
 
 pair-ended-requires : tie.Need-pair-ended-requires
-pair-ended-requires c κs = pair-bounds (c .before .before .before .before .before .before .before .before .before .before .before .before)
+pair-ended-requires c κs = pair-bounds (c .before .before .before .before .before .before .before .before .before .before)
 
 returns : tie.Need-returns
 unfolding afterTried pairEnded withAlternative keptBefore
 returns c =
     let attempt = c .before .before .before .before .before in
     let found = c .before .before .before .enum-told .given .1 in
-    let start = attempt .before .before .before .before .before .before .before .before in
+    let start = attempt .before .before .before .before .before .before in
     let chosen : otherwise start (start .args .choices .now) ≡ true = sym (c .before .before .chosen-otherwise .ensures) ∙ c .before .if1 .taken in (
       rw (c .pair-ended .ensures) (omega arith),
       λ (seat : Seat) chosen-so trial-so.
@@ -110,19 +110,19 @@ add-write-example c = search needs
 
 write-example-requires : tie.Need-write-example-requires
 write-example-requires c κs =
-    let start = c .before .before .before .before .before .before .before .before .before .before .before .before .before in
+    let start = c .before .before .before .before .before .before .before .before .before .before .before in
     let feature = feature-below-16 (catalogue start) (start .pre .0 .no-fault) (within start) in
     let option = option-below-16 (catalogue start) (start .pre .0 .no-fault) (within start) in
     (start .pre .0 .placed-so .sixteen, rw (start .pre .1) (omega (arith, feature, option)))
 
 pair-ended-requires-2 : tie.Need-pair-ended-requires-2
-pair-ended-requires-2 c κs = pair-bounds (c .before .before .before .before .before .before .before .before .before .before .before .before .before .before .before .before)
+pair-ended-requires-2 c κs = pair-bounds (c .before .before .before .before .before .before .before .before .before .before .before .before .before .before)
 
 enum-told-2 : tie.Need-enum-told-2
 enum-told-2 c = search needs
 
 pair-ended-requires-3 : tie.Need-pair-ended-requires-3
-pair-ended-requires-3 c κs = pair-bounds (c .before .before .before .before .before .before .before .before .before .before)
+pair-ended-requires-3 c κs = pair-bounds (c .before .before .before .before .before .before .before .before)
 
 returns-2 : tie.Need-returns-2
 unfolding afterTried
@@ -141,7 +141,7 @@ unfolding afterTried pairEnded withExample keptBefore
 returns-3 c =
     let attempt = c .before .before .before .before .before .before .before .before .before in
     let found = c .before .before .before .before .before .before .before .enum-told .given .1 in
-    let start = attempt .before .before .before .before .before .before .before .before in
+    let start = attempt .before .before .before .before .before .before in
     let free : otherwise start (start .args .choices .now) ≡ false = sym (c .before .before .before .before .before .before .chosen-otherwise .ensures) ∙ c .before .before .before .before .before .if1 .left in (
       rw (c .pair-ended2 .ensures) (omega arith),
       λ (seat : Seat) chosen-so trial-so.

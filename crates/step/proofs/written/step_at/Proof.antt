@@ -1,11 +1,16 @@
 -- The record fits the catalogue, so what is placed is the trial with the option to be tried in it, and what the step comes
 -- to is what the arrays are made by.
-use Prim.Native.Nat.{_<_}
+use Prim.Native.Nat.{ℕ, _<_}
 use mathlib.Core.Path.{_≡_, refl, sym, _∙_}
 use native.Mathlib.Omega.{arith}
 use borrow.Author.Needs.{needs}
-use lib.ListN.{length, set}
+use lib.ListN.{length, set, length-set}
 use Rattle.builds.specs.Catalogue.{Catalogue, catalogueOf}
+use Rattle.placed.specs.declared.rules.Tested.{Tested}
+use Rattle.placed.specs.Tested.{ruleBroken}
+use Rattle.search.specs.declared.Place.{Place}
+use Rattle.search.specs.Clinic.{Clinic, clinicOf, withBroken}
+use Rattle.search.specs.Step.{searchAt, testAt, brokenAfter, stepAt}
 use Rattle.search.proofs.FitsInWords.{PlaceFits, fits-place, SeatFits, seat-fits}
 use Rattle.search.proofs.KeptBefore.{kept-under}
 use Rattle.search.proofs.PlaceBounds.{feature-below-16, option-below-16, depth-below-16, place-at-work, nothing-from-depth, trial-bytes, tried-there, placed-so}
@@ -36,15 +41,20 @@ cast-j c = search needs
 array-write-placed : tie.Need-array-write-placed
 array-write-placed c = shallow (c .before .before .before .before .before .before .before .before .before .before .before)
 
+slice-aggregate-build : tie.Need-slice-aggregate-build
+slice-aggregate-build c = search needs
+
+tested-at-requires : tie.Need-tested-at-requires
+tested-at-requires c κs =
+    let start = c .before .before .before .before .before .before .before .before .before .before .before .before in
+    ((start .pre .0 .no-fault, start .pre .0 .starts), (shallow start, length-set (start .args .seat .trial) (start .args .place .depth) (start .args .place .next) ∙ trial-long start))
+
 slice-aggregate-after-step : tie.Need-slice-aggregate-after-step
 slice-aggregate-after-step c = search needs
 
-slice-aggregate-after-step-2 : tie.Need-slice-aggregate-after-step-2
-slice-aggregate-after-step-2 c = search needs
-
 after-step-requires : tie.Need-after-step-requires
 after-step-requires c κs =
-    let start = c .before .before .before .before .before .before .before .before .before .before .before .before .before .before in
+    let start = c .before .before .before .before .before .before .before .before .before .before .before .before .before .before .before in
     let needs = start .pre .0 in (
       record {
         no-fault = needs .no-fault;
@@ -52,7 +62,7 @@ after-step-requires c κs =
         sixteen-choices = choices-long start;
         placed-so = placed-so (catalogue start) (needs .no-fault) (start .args .seat) (fits start) (start .args .place) (start .pre .1) (trial-long start);
         tried = tried-there (catalogue start) (needs .no-fault) (start .args .seat) (fits start) (start .args .place) (start .pre .1) (trial-long start);
-        starts = needs .starts;
+        is-tested = c .before .before .tested-at .ensures;
       },
       needs .whole-share,
     )
@@ -64,11 +74,11 @@ pair-below c =
     (feature-below-16 (catalogue c) fault (within c), option-below-16 (catalogue c) fault (within c))
 
 masks-after-requires : tie.Need-masks-after-requires
-masks-after-requires c κs = pair-below (c .before .before .before .before .before .before .before .before .before .before .before .before .before .before .before .before .before)
+masks-after-requires c κs = pair-below (c .before .before .before .before .before .before .before .before .before .before .before .before .before .before .before .before .before .before)
 
 trial-after-requires : tie.Need-trial-after-requires
 trial-after-requires c κs =
-    let start = c .before .before .before .before .before .before .before .before .before .before .before .before .before .before .before .before .before .before in
+    let start = c .before .before .before .before .before .before .before .before .before .before .before .before .before .before .before .before .before .before .before in
     let fault = start .pre .0 .no-fault in
     let place = start .args .place in (
       (shallow start, c .before .before .before .after-step .ensures .0, start .pre .0 .the-edge),
@@ -79,20 +89,33 @@ trial-after-requires c κs =
     )
 
 masks-after-requires-2 : tie.Need-masks-after-requires-2
-masks-after-requires-2 c κs = pair-below (c .before .before .before .before .before .before .before .before .before .before .before .before .before .before .before .before .before .before .before)
+masks-after-requires-2 c κs = pair-below (c .before .before .before .before .before .before .before .before .before .before .before .before .before .before .before .before .before .before .before .before)
+
+broken-after-requires : tie.Need-broken-after-requires
+broken-after-requires c κs = search needs
 
 same-length : tie.Need-same-length
 same-length c = search needs
 
+-- the search goes on as `after_step` says, and then the rule that the test named is kept
+kept-so : (catalogue : Catalogue) (place : Place) (tested : Tested) (clinic after : Clinic) (broken : ℕ)
+    → ruleBroken tested ≡ testAt catalogue place clinic → after ≡ searchAt catalogue place clinic
+    → broken ≡ brokenAfter (after .seat .state) (ruleBroken tested) (clinic .seat .broken)
+    → withBroken broken after ≡ stepAt catalogue place clinic
+unfolding stepAt
+kept-so catalogue place tested clinic after broken named came kept = rw (kept, named, came) refl
+
 returns : tie.Need-returns
 returns c =
-    let start = c .before .before .before .before .before .before .before .before .before .before .before .before .before .before .before .before .before .before .before .before in
+    let start = c .before .before .before .before .before .before .before .before .before .before .before .before .before .before .before .before .before .before .before .before .before .before in
     let place = start .args .place in
     let seat = start .args .seat in
+    let attempt = c .before .before .before .before .before .before in
     let nothing = nothing-from-depth (catalogue start) (start .pre .0 .no-fault) seat (fits start) place (start .pre .1) (trial-long start) in
     let under = kept-under (seat .trial) (trial-long start) (place .depth) (place .next) (omega (arith, shallow start)) nothing in
-    rw (c .before .before .masks-after .ensures, c .before .trial-after .ensures, c .masks-after2 .ensures)
-    (c .before .before .before .before .before .after-step .ensures .1 seat refl under)
+    rw (c .before .before .before .masks-after .ensures, c .before .before .trial-after .ensures, c .before .masks-after2 .ensures)
+    (kept-so (catalogue start) place (attempt .before .before .before .tested-at .result) (clinicOf seat (start .args .share .now)) _ _
+    (attempt .before .before .before .tested-at .ensures) (attempt .after-step .ensures .1 seat refl under) (c .broken-after .ensures))
 
 pub step-at-spec : {M : Type 1} → statement M
 step-at-spec =
@@ -100,11 +123,13 @@ step-at-spec =
     (tie.spec
     cast-j
     array-write-placed
+    slice-aggregate-build
+    tested-at-requires
     slice-aggregate-after-step
-    slice-aggregate-after-step-2
     after-step-requires
     masks-after-requires
     trial-after-requires
     masks-after-requires-2
+    broken-after-requires
     same-length
     returns)
