@@ -20,7 +20,7 @@ clinicOf seat share = record { seat = seat; share = share }
 
 -- what is read past the last of some records; of no account
 abbrev pub noSeat : Seat
-noSeat = record { state = Closed; choices = []; masks = []; trial = []; alternatives = []; broken = 255 }
+noSeat = record { state = Closed; choices = []; masks = []; trial = []; alternatives = []; broken = 0 }
 
 -- no choices, no options placed; no options left; a share that holds nothing
 abbrev pub nothing16 : List ℕ
