@@ -11,7 +11,9 @@
 
      nethazel_desk desk = nethazel_open(LENT).desk;
      desk = nethazel_enter(desk, LENT, 3).desk;               // seat 3 gets a job: it's at work
-     desk = nethazel_turns(desk, LENT, 65535).desk;           // 39 turns are made; it's ready
+     desk = nethazel_turns(desk, LENT, 4).desk;               // four turns are made
+     nethazel_ran ran = nethazel_ran_into(desk, LENT, 3);     // the search has just run into rule 1
+     desk = nethazel_turns(desk, LENT, 65535).desk;           // 35 more turns are made; it's ready
      nethazel_left left = nethazel_options(desk, LENT, 3, 0); // of feature 0: mask 7, count 3, options 0, 1, 2
      desk = nethazel_choose(desk, LENT, 3, 2, 0).desk;        // feature 2 shall have option 0: at work again
      desk = nethazel_turns(desk, LENT, 65535).desk;           // 43 turns
@@ -35,10 +37,9 @@
    Memory. The library keeps nothing and allocates nothing: the caller owns all of it. A desk is a value, handed over and
    handed back; who has two values has two desks. Sizes and rules are lent for reading. The board is lent for writing to
    open, enter, leave, choose, relax and turns, and must then overlap no other memory that is lent to the call; options,
-   alternatives and example read it. Pointers are never NULL, also with length 0, and rules are aligned as uint16_t is.
+   alternatives, example and ran_into read it. Pointers are never NULL, also with length 0, and rules are aligned as uint16_t is.
    Hand desk and board on together, from call to call, with one catalogue: a board that others wrote to shows what they
-   wrote. A seat has a byte of padding after its choices and a desk one at its end, which may hold anything: compare and
-   store desks field by field.
+   wrote. A desk has a byte of padding at its end, which may hold anything: compare and store desks field by field.
 
    Threads. Nothing is shared between calls but what the caller lends. Two threads may call at the same time with two
    boards; with one board only where neither call writes it. A call needs up to some 12 KB of stack: give a thread 64 KB
@@ -56,26 +57,27 @@
 extern "C" {
 #endif
 
-#define NETHAZEL_VERSION "0.2.0"
+#define NETHAZEL_VERSION "0.3.0"
 
 /* The layout: the number of this header's records and calls. Each call's symbol has it in its name, so that a host which was
    compiled for other records or calls is not linked. If the linker says
 
-     undefined reference to `nethazel_open_layout_1'
+     undefined reference to `nethazel_open_layout_2'
 
    and so of every call, then no archive was linked, or it is of another layout than this header: `nm libnethazel.a | grep
    nethazel_open` shows which; a name without a number is older than 0.2.0. Take header and archive from one release, and
    compile every source file that includes the header again. */
-#define NETHAZEL_LAYOUT 1
-#define nethazel_open nethazel_open_layout_1
-#define nethazel_enter nethazel_enter_layout_1
-#define nethazel_leave nethazel_leave_layout_1
-#define nethazel_choose nethazel_choose_layout_1
-#define nethazel_relax nethazel_relax_layout_1
-#define nethazel_options nethazel_options_layout_1
-#define nethazel_alternatives nethazel_alternatives_layout_1
-#define nethazel_example nethazel_example_layout_1
-#define nethazel_turns nethazel_turns_layout_1
+#define NETHAZEL_LAYOUT 2
+#define nethazel_open nethazel_open_layout_2
+#define nethazel_enter nethazel_enter_layout_2
+#define nethazel_leave nethazel_leave_layout_2
+#define nethazel_choose nethazel_choose_layout_2
+#define nethazel_relax nethazel_relax_layout_2
+#define nethazel_options nethazel_options_layout_2
+#define nethazel_alternatives nethazel_alternatives_layout_2
+#define nethazel_example nethazel_example_layout_2
+#define nethazel_ran_into nethazel_ran_into_layout_2
+#define nethazel_turns nethazel_turns_layout_2
 
 #ifdef __GNUC__
 #define NETHAZEL_EXTENSION __extension__ /* C89 has no bool */
@@ -84,7 +86,7 @@ extern "C" {
 #endif
 
 #define NETHAZEL_BOARD 32768 /* the board's length: 4,096 bytes for each of the eight seats */
-#define NETHAZEL_NONE 255    /* no choice, nothing placed, no example */
+#define NETHAZEL_NONE 255    /* no choice, nothing placed, no example, no rule */
 
 enum { NETHAZEL_CLOSED = 0, NETHAZEL_READY = 1, NETHAZEL_AT_WORK = 2 };
 
@@ -97,6 +99,8 @@ typedef struct {
     uint8_t option;
     uint8_t depth;
     uint8_t next;
+    uint8_t broken;      /* the last rule that an option tried in this job broke, counted from 0; 255 for none, and in the
+                            other states */
     uint8_t choices[16]; /* the option chosen for each feature; 255 for none */
     uint16_t masks[16];  /* the options left of each feature: bit a for option a; of meaning once the seat is ready */
     uint8_t trial[16];   /* the options placed before `depth`; 255 from there on, and in the other states */
@@ -130,6 +134,11 @@ typedef struct {
 
 typedef struct {
     uint8_t number;
+    uint8_t rule; /* counted from 0 through the rule list; NETHAZEL_NONE, 255, for none */
+} nethazel_ran;
+
+typedef struct {
+    uint8_t number;
     uint16_t made;                   /* turns made */
     NETHAZEL_EXTENSION bool working; /* whether a seat is still at work */
     nethazel_desk desk;
@@ -149,6 +158,7 @@ NETHAZEL_BYTES(nethazel_desk, 818);
 NETHAZEL_BYTES(nethazel_changed, 820);
 NETHAZEL_BYTES(nethazel_left, 8);
 NETHAZEL_BYTES(nethazel_example_at, 24);
+NETHAZEL_BYTES(nethazel_ran, 2);
 NETHAZEL_BYTES(nethazel_turned, 824);
 #undef NETHAZEL_BYTES
 #undef NETHAZEL_EXTENSION
@@ -171,6 +181,8 @@ NETHAZEL_BYTES(nethazel_turned, 824);
    alternatives  what could replace the choice of one feature of a ready seat: the options of which some build satisfies
                  all rules and all other choices, the option in force always among them
    example       the first build in dictionary order with option a at feature i, for an option that is left
+   ran_into      the rule that the search of a seat, at work or ready, last ran into: the last one that an option tried in
+                 this job broke; none once the seat is ready
    turns         w turns, or fewer when no seat is at work; each gives one waiting seat one step, around the ring */
 nethazel_changed nethazel_open(NETHAZEL_WRITTEN);
 nethazel_changed nethazel_enter(nethazel_desk desk, NETHAZEL_WRITTEN, size_t c);
@@ -180,6 +192,7 @@ nethazel_changed nethazel_relax(nethazel_desk desk, NETHAZEL_WRITTEN, size_t c, 
 nethazel_left nethazel_options(nethazel_desk desk, NETHAZEL_READ, size_t c, size_t i);
 nethazel_left nethazel_alternatives(nethazel_desk desk, NETHAZEL_READ, size_t c, size_t i);
 nethazel_example_at nethazel_example(nethazel_desk desk, NETHAZEL_READ, size_t c, size_t i, size_t a);
+nethazel_ran nethazel_ran_into(nethazel_desk desk, NETHAZEL_READ, size_t c);
 nethazel_turned nethazel_turns(nethazel_desk desk, NETHAZEL_WRITTEN, uint16_t w);
 #undef NETHAZEL_CATALOGUE
 #undef NETHAZEL_WRITTEN
@@ -204,7 +217,7 @@ enum nethazel_refusal {
     NETHAZEL_REFUSED_SEAT_ABOVE_7 = 30,          /* seat above 7 */
     NETHAZEL_REFUSED_SEAT_CLOSED = 31,           /* seat closed (not for enter) */
     NETHAZEL_REFUSED_SEAT_OPEN = 32,             /* seat open (enter only) */
-    NETHAZEL_REFUSED_SEAT_AT_WORK = 33,          /* seat at work (not for enter, leave) */
+    NETHAZEL_REFUSED_SEAT_AT_WORK = 33,          /* seat at work (not for enter, leave, ran_into) */
     NETHAZEL_REFUSED_FEATURE_MISSING = 34,       /* feature not in the catalogue */
     NETHAZEL_REFUSED_OPTION_MISSING = 35,        /* option not below the size (choose, example) */
     NETHAZEL_REFUSED_FEATURE_HAS_CHOICE = 36,    /* the feature has a choice (choose) */

@@ -10,6 +10,7 @@ use Rattle.runs.specs.Perform.{Outcome, perform, opening}
 use Rattle.host.specs.declared.records.HostDesk.{HostDesk}
 use Rattle.host.specs.declared.records.HostChanged.{HostChanged}
 use Rattle.host.specs.declared.records.HostLeft.{HostLeft}
+use Rattle.host.specs.declared.records.HostRan.{HostRan}
 use Rattle.host.specs.declared.records.HostExample.{HostExample}
 use Rattle.host.specs.declared.records.HostTurned.{HostTurned}
 use Rattle.host.specs.Records.{deskOf, hostDeskOf}
@@ -53,11 +54,22 @@ hostChangedOutcome changed board = record { answer = refused (changed .number); 
 
 abbrev pub hostLeftAnswer : HostLeft → Answer
 hostLeftAnswer left =
-    record { number = left .number; mask = left .mask; count = left .count; bytes = []; made = 0; working = false }
+    record { number = left .number; mask = left .mask; count = left .count; bytes = []; made = 0; working = false; rule = 0 }
+
+abbrev pub hostRanAnswer : HostRan → Answer
+hostRanAnswer ran = record { number = ran .number; mask = 0; count = 0; bytes = []; made = 0; working = false; rule = ran .rule }
 
 abbrev pub hostTurnedOutcome : HostTurned → List ℕ → HostOutcome
 hostTurnedOutcome turned board = record {
-  answer = record { number = turned .number; mask = 0; count = 0; bytes = []; made = turned .made; working = turned .working };
+  answer = record {
+    number = turned .number;
+    mask = 0;
+    count = 0;
+    bytes = [];
+    made = turned .made;
+    working = turned .working;
+    rule = 0;
+  };
   desk = turned .desk;
   board = board;
 }

@@ -25,6 +25,7 @@ deskSeatOf given = record {
   masks = given .masks;
   trial = given .trial;
   alternatives = given .alternatives;
+  broken = given .broken;
 }
 
 unfoldable pub allKnown : List HostSeat → Bool
@@ -42,6 +43,7 @@ hostSeat state place seat = record {
   option = place .option;
   depth = place .depth;
   next = place .next;
+  broken = seat .broken;
   choices = seat .choices;
   masks = seat .masks;
   trial = seat .trial;

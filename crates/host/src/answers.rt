@@ -3,10 +3,12 @@ use crate::convert::host_desk_of;
 use crate::records::HostChanged;
 use crate::records::HostDesk;
 use crate::records::HostLeft;
+use crate::records::HostRan;
 use crate::records::HostTurned;
 use desk::Changed;
 use desk::Desk;
 use desk::Left;
+use desk::Ran;
 use desk::Turned;
 ghost use mathlib.Core.Path.{_≡_};
 ghost use Rattle.host.specs.Door.{deskBack};
@@ -30,6 +32,15 @@ pub fn left_back(left: Left) -> HostLeft
         number: left.number,
         mask: left.mask,
         count: left.count,
+    }
+}
+
+pub fn ran_back(ran: Ran) -> HostRan
+    ensures { λ r. ⌜ r ≡ record { number = ran .number; rule = ran .rule } ⌝ }
+{
+    HostRan {
+        number: ran.number,
+        rule: ran.rule,
     }
 }
 

@@ -89,6 +89,7 @@ fn desk_seat_of(given: HostSeat) -> Seat
         masks,
         trial,
         alternatives,
+        broken: given.broken,
     }
 }
 
@@ -140,6 +141,7 @@ fn host_seat(state: u8, place: Place, seat: Seat) -> HostSeat
         option: place.option,
         depth: place.depth,
         next: place.next,
+        broken: seat.broken,
         choices,
         masks,
         trial,

@@ -8,6 +8,7 @@ mod records;
 
 use answers::changed_back;
 use answers::left_back;
+use answers::ran_back;
 use answers::turned_back;
 use convert::desk_of;
 use convert::host_desk_of;
@@ -15,19 +16,20 @@ pub use records::HostChanged;
 pub use records::HostDesk;
 pub use records::HostExample;
 pub use records::HostLeft;
+pub use records::HostRan;
 pub use records::HostSeat;
 pub use records::HostTurned;
 ghost use mathlib.Core.Path.{_≡_};
 ghost use lib.ListN.{take, drop};
 ghost use Rattle.builds.specs.Catalogue.{catalogueOf};
 ghost use Rattle.runs.specs.declared.Asking.the-variants.{Enter, Leave, Choose, Relax, Read};
-ghost use Rattle.runs.specs.declared.Reading.the-variants.{Options, Alternatives, Example};
+ghost use Rattle.runs.specs.declared.Reading.the-variants.{Options, Alternatives, Example, RanInto};
 ghost use Rattle.runs.specs.Call.{asks, turns};
 ghost use Rattle.host.specs.Door.{inside, throughDoor, openedDoor, hostChangedOutcome};
-ghost use Rattle.host.specs.Door.{hostLeftAnswer, hostTurnedOutcome, exampleStands};
+ghost use Rattle.host.specs.Door.{hostLeftAnswer, hostRanAnswer, hostTurnedOutcome, exampleStands};
 
 #[no_mangle]
-pub extern "C" fn nethazel_open_layout_1(
+pub extern "C" fn nethazel_open_layout_2(
     board: &mut [u8],
     sizes: &[u8],
     rules: &[u16],
@@ -44,7 +46,7 @@ pub extern "C" fn nethazel_open_layout_1(
 }
 
 #[no_mangle]
-pub extern "C" fn nethazel_enter_layout_1(
+pub extern "C" fn nethazel_enter_layout_2(
     given: HostDesk,
     board: &mut [u8],
     sizes: &[u8],
@@ -60,7 +62,7 @@ pub extern "C" fn nethazel_enter_layout_1(
 }
 
 #[no_mangle]
-pub extern "C" fn nethazel_leave_layout_1(
+pub extern "C" fn nethazel_leave_layout_2(
     given: HostDesk,
     board: &mut [u8],
     sizes: &[u8],
@@ -76,7 +78,7 @@ pub extern "C" fn nethazel_leave_layout_1(
 }
 
 #[no_mangle]
-pub extern "C" fn nethazel_choose_layout_1(
+pub extern "C" fn nethazel_choose_layout_2(
     given: HostDesk,
     board: &mut [u8],
     sizes: &[u8],
@@ -94,7 +96,7 @@ pub extern "C" fn nethazel_choose_layout_1(
 }
 
 #[no_mangle]
-pub extern "C" fn nethazel_relax_layout_1(
+pub extern "C" fn nethazel_relax_layout_2(
     given: HostDesk,
     board: &mut [u8],
     sizes: &[u8],
@@ -111,7 +113,7 @@ pub extern "C" fn nethazel_relax_layout_1(
 }
 
 #[no_mangle]
-pub extern "C" fn nethazel_options_layout_1(
+pub extern "C" fn nethazel_options_layout_2(
     given: HostDesk,
     board: &[u8],
     sizes: &[u8],
@@ -127,7 +129,7 @@ pub extern "C" fn nethazel_options_layout_1(
 }
 
 #[no_mangle]
-pub extern "C" fn nethazel_alternatives_layout_1(
+pub extern "C" fn nethazel_alternatives_layout_2(
     given: HostDesk,
     board: &[u8],
     sizes: &[u8],
@@ -144,7 +146,7 @@ pub extern "C" fn nethazel_alternatives_layout_1(
 
 // Both of the desk's calls for an example in one: the number, and where the bytes stand that the desk hands out.
 #[no_mangle]
-pub extern "C" fn nethazel_example_layout_1(
+pub extern "C" fn nethazel_example_layout_2(
     given: HostDesk,
     board: &[u8],
     sizes: &[u8],
@@ -176,7 +178,22 @@ pub extern "C" fn nethazel_example_layout_1(
 }
 
 #[no_mangle]
-pub extern "C" fn nethazel_turns_layout_1(
+pub extern "C" fn nethazel_ran_into_layout_2(
+    given: HostDesk,
+    board: &[u8],
+    sizes: &[u8],
+    rules: &[u16],
+    c: usize,
+) -> HostRan
+    ensures { λ r. ⌜ hostRanAnswer r
+        ≡ inside (catalogueOf (now (sizes .entry)) (now (rules .entry))) (asks c (Read RanInto))
+        given (now (board .entry)) .answer ⌝ }
+{
+    ran_back(desk::ran_into(desk_of(given), board, sizes, rules, c))
+}
+
+#[no_mangle]
+pub extern "C" fn nethazel_turns_layout_2(
     given: HostDesk,
     board: &mut [u8],
     sizes: &[u8],

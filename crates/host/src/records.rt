@@ -6,6 +6,7 @@ pub struct HostSeat {
     pub option: u8,
     pub depth: u8,
     pub next: u8,
+    pub broken: u8, // the last rule broken in this job; 255 for none
     pub choices: [u8; 16],
     pub masks: [u16; 16],
     pub trial: [u8; 16],
@@ -37,6 +38,12 @@ pub struct HostExample {
     pub number: u8,
     pub from: usize,
     pub length: usize, // 0 where the call is refused
+}
+
+#[repr(C)]
+pub struct HostRan {
+    pub number: u8,
+    pub rule: u8, // 255 for none
 }
 
 #[repr(C)]
