@@ -1,8 +1,8 @@
-//! Builds by brute force, and what a ready seat must show by demand 2, with what R-6 adds to it.
-//! Nothing here knows of the written search, but for the last function, which counts K by plain
-//! recursion.
+//! Builds by brute force, and what a ready seat must show by demand 2, with what
+//! add to it. Nothing here knows of the written search, but for the last functions, which count K and
+//! find the rule last run into by plain recursion.
 
-use crate::catalogue::{Catalogue, FEATURES};
+use crate::catalogue::{Catalogue, Rule, FEATURES};
 use crate::record::{Record, EXAMPLE, NONE, SHARE};
 
 /// Above this many instantiations brute force is left out.
@@ -124,6 +124,10 @@ pub fn wrong_when_ready(
 
 /// What needs no builds to be seen.
 fn wrong_by_choices(catalogue: &Catalogue, record: &Record) -> Option<String> {
+    // "255 for none … when ready"
+    if record.rule != NONE {
+        return Some(format!("its rule is {}", record.rule));
+    }
     for feature in 0..catalogue.features() {
         let choice = record.choices[feature];
         // "in a ready seat a feature that has a choice shows that option alone as left"
@@ -146,31 +150,60 @@ fn wrong_by_choices(catalogue: &Catalogue, record: &Record) -> Option<String> {
     None
 }
 
+/// What the recursion has done so far, and how many steps it may take.
+struct Walk {
+    steps: u64,
+    most: u64,
+    /// The rule last run into.
+    rule: u8,
+}
+
 /// K, pair by pair: how many steps the written search takes for each pair (i, a), with the choice
 /// in force at i, if there is one, set aside.
 pub fn steps_by_pair(catalogue: &Catalogue, choices: &[u8; FEATURES]) -> Vec<u64> {
     let mut steps = Vec::new();
-    for i in 0..catalogue.features() {
-        for a in 0..catalogue.sizes[i] {
-            let mut fixed = *choices;
-            fixed[i] = a;
-            let mut count = 0;
-            place_from(catalogue, &fixed, 0, &mut [NONE; FEATURES], &mut count);
-            steps.push(count);
-        }
+    for fixed in fixed_by_pair(catalogue, choices) {
+        let mut walk = Walk { steps: 0, most: u64::MAX, rule: NONE };
+        place_from(catalogue, &fixed, 0, &mut [NONE; FEATURES], &mut walk);
+        steps.push(walk.steps);
     }
     steps
 }
 
-/// Places options from `depth` on, one step counted for each; true once a build is found.
+/// "the last rule broken in this job" after so many of its steps, fewer than K.
+pub fn rule_after(catalogue: &Catalogue, choices: &[u8; FEATURES], steps: u64) -> u8 {
+    let mut walk = Walk { steps: 0, most: steps, rule: NONE };
+    for fixed in fixed_by_pair(catalogue, choices) {
+        if walk.steps < walk.most {
+            place_from(catalogue, &fixed, 0, &mut [NONE; FEATURES], &mut walk);
+        }
+    }
+    walk.rule
+}
+
+/// For each pair (i, a) in its order the options that are fixed: the choices, and a at i.
+fn fixed_by_pair(catalogue: &Catalogue, choices: &[u8; FEATURES]) -> Vec<[u8; FEATURES]> {
+    let mut pairs = Vec::new();
+    for i in 0..catalogue.features() {
+        for a in 0..catalogue.sizes[i] {
+            let mut fixed = *choices;
+            fixed[i] = a;
+            pairs.push(fixed);
+        }
+    }
+    pairs
+}
+
+/// Places options from `depth` on, one step counted for each; true once a build is found or no step
+/// is left.
 fn place_from(
     catalogue: &Catalogue,
     fixed: &[u8; FEATURES],
     depth: usize,
     build: &mut [u8; FEATURES],
-    count: &mut u64,
+    walk: &mut Walk,
 ) -> bool {
-    if depth == catalogue.features() {
+    if depth == catalogue.features() || walk.steps == walk.most {
         return true;
     }
     for option in 0..catalogue.sizes[depth] {
@@ -178,13 +211,14 @@ fn place_from(
             continue;
         }
         build[depth] = option;
-        *count += 1;
-        let passed = catalogue
-            .rules
-            .iter()
-            .filter(|rule| rule.highest() == depth)
-            .all(|rule| rule.satisfied_by(build));
-        if passed && place_from(catalogue, fixed, depth + 1, build, count) {
+        walk.steps += 1;
+        let broken = |rule: &Rule| rule.highest() == depth && !rule.satisfied_by(build);
+        match catalogue.rules.iter().position(broken) {
+            Some(rule) => walk.rule = rule as u8,
+            None if place_from(catalogue, fixed, depth + 1, build, walk) => return true,
+            None => {}
+        }
+        if walk.steps == walk.most {
             return true;
         }
     }

@@ -1,8 +1,10 @@
 //! The desk's calls as lines: each call made, its answer or refusal in words.
 
-use crate::desk::{Desk, Left, Lent, Turned, SEATS};
+use crate::catalogue::rules_and_fault;
+use crate::desk::{Desk, Left, Lent, RanInto, Turned, SEATS};
 use crate::fit::{misfit, CLAUSES};
 use crate::look::nothing_left;
+use crate::record::NONE;
 use crate::script::Session;
 use crate::tally::Seen;
 use crate::words::{self, counted, say, Spoken};
@@ -15,6 +17,7 @@ impl Session {
             "open" => self.open(),
             "enter" | "leave" | "choose" | "relax" => self.change(word, n),
             "options" | "alternatives" => self.ask(word, n),
+            "ran-into" => self.ask_rule(n[0]),
             "example" => {
                 let (refusal, bytes) = self.desk.example(&self.board, self.lent(), n[0], n[1], n[2]);
                 let text = format!("option {} of feature {}:{}", n[2], n[1], words::entries(bytes));
@@ -35,9 +38,9 @@ impl Session {
             return answer;
         }
         let mut text = words::refusal(refusal, Spoken::of(&self.board, self.lent(), n));
-        // Nothing but 0, "no seat at work" and an example of length 0 may stand beside a refusal;
-        // were there anything, it would show here.
-        if matches!(word, "options" | "alternatives" | "example" | "turns") {
+        // Nothing but 0, "no seat at work", no rule and an example of length 0 may stand beside a
+        // refusal; were there anything, it would show here.
+        if matches!(word, "options" | "alternatives" | "example" | "ran-into" | "turns") {
             text.push_str(&answer);
         }
         text
@@ -89,6 +92,35 @@ impl Session {
         (refusal, if refusal != 0 { words::beside((mask, count) != (0, 0), text) } else { text })
     }
 
+    fn ask_rule(&mut self, seat: u32) -> (u16, String) {
+        let RanInto { refusal, rule } = self.desk.ran_into(&self.board, self.lent(), seat);
+        self.tally.ran_into[usize::from(refusal)] += 1;
+        if refusal == 0 {
+            self.tally_rule(self.desk.seats[seat as usize].at_work(), rule);
+        }
+        let text = words::ran_into(seat, rule);
+        (refusal, if refusal != 0 { words::beside(rule != NONE, text) } else { text })
+    }
+
+    fn tally_rule(&mut self, at_work: bool, rule: u8) {
+        self.tally.see(match (at_work, rule) {
+            (false, _) => Seen::RanIntoReady,
+            (true, NONE) => Seen::RanIntoNone,
+            (true, 0) => Seen::RanIntoFirst,
+            (true, 1..=9) => Seen::RanIntoLater,
+            (true, _) => Seen::RanIntoFromTen,
+        });
+        if rule != NONE && !self.is_numbered_as_at_its_depth(usize::from(rule)) {
+            self.tally.see(Seen::RanIntoOtherNumber);
+        }
+    }
+
+    /// Is the rule's number also its place among the rules that are tested where it is?
+    fn is_numbered_as_at_its_depth(&self, rule: usize) -> bool {
+        let (rules, _) = rules_and_fault(&self.sizes, &self.list);
+        rules[..rule].iter().all(|before| before.highest() == rules[rule].highest())
+    }
+
     fn turns(&mut self, w: u16) -> Turned {
         let mut before = [false; SEATS];
         for (before, record) in before.iter_mut().zip(&self.desk.seats) {
@@ -98,6 +130,9 @@ impl Session {
         let turned = self.desk.turns(&mut self.board, lent, w);
         if turned.refusal == 0 {
             self.tally.steps += u64::from(turned.made);
+            self.tally.failed += turned.failed;
+            self.tally.failed_several += turned.failed_several;
+            self.tally.failed_last += turned.failed_last;
             let lent = (&self.sizes[..], &self.list[..]);
             self.run.turned(&before, &self.desk, &self.board, lent, &turned, &mut self.tally);
         }

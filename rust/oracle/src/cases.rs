@@ -1,6 +1,6 @@
 //! The paper's worked cases, and the readings that these cases alone do not tell apart.
 
-use crate::builds::{alternatives, builds, shown, steps_by_pair};
+use crate::builds::{alternatives, builds, rule_after, shown, steps_by_pair, wrong_when_ready};
 use crate::catalogue::{read, Catalogue};
 use crate::desk::{Desk, Lent, BOARD};
 use crate::expect::transcript;
@@ -553,6 +553,241 @@ fn refusals_of_alternatives_in_their_order() {
     }
 }
 
+/// A step: the seat's place (i, a, j, v) before it, the rule kept after it.
+type Kept = (u8, u8, u8, u8, u8);
+
+/// A fresh job's steps, each by its place and the rule that it leaves. The record had a rule before.
+fn kept_by_steps(catalogue: &Catalogue) -> Vec<Kept> {
+    let mut record = Record::closed();
+    record.rule = 7;
+    post(catalogue, &mut record);
+    assert_eq!(record.rule, NONE);
+    let mut share = vec![NONE; 4096];
+    let mut kept = Vec::new();
+    while let State::AtWork { i, a, j, v } = record.state {
+        step(catalogue, &mut record, &mut share);
+        kept.push((i, a, j, v, record.rule));
+        let again = rule_after(catalogue, &[NONE; 16], kept.len() as u64);
+        assert!(again == record.rule || !record.at_work());
+    }
+    kept
+}
+
+/// R-1 on the trolley, all 39 steps by hand. Rule 0 is tested at depth 1, rule 1 at depth 2; each list
+/// here is a pair.
+#[test]
+fn rules_that_the_trolleys_job_runs_into() {
+    let by_hand: [&[Kept]; 8] = [
+        // 0; 00 breaks 0; 01; 010 breaks 1; 011, and the rule stays over the end of the pair.
+        &[(0, 0, 0, 0, NONE), (0, 0, 1, 0, 0), (0, 0, 1, 1, 0), (0, 0, 2, 0, 1), (0, 0, 2, 1, 1)],
+        // 1, 10, 100: nothing is broken.
+        &[(0, 1, 0, 1, 1), (0, 1, 1, 0, 1), (0, 1, 2, 0, 1)],
+        // 2; 20 breaks 0; 21; 210 breaks 1; 211.
+        &[(0, 2, 0, 2, 1), (0, 2, 1, 0, 0), (0, 2, 1, 1, 0), (0, 2, 2, 0, 1), (0, 2, 2, 1, 1)],
+        // 0; 00 breaks 0, and 0 is alone at feature 1; 1, 10, 100.
+        &[(1, 0, 0, 0, 1), (1, 0, 1, 0, 0), (1, 0, 0, 1, 0), (1, 0, 1, 0, 0), (1, 0, 2, 0, 0)],
+        // 0, 01; 010 breaks 1; 011.
+        &[(1, 1, 0, 0, 0), (1, 1, 1, 1, 0), (1, 1, 2, 0, 1), (1, 1, 2, 1, 1)],
+        // 0; 02 breaks 0; 1, 12, 120.
+        &[(1, 2, 0, 0, 1), (1, 2, 1, 2, 0), (1, 2, 0, 1, 0), (1, 2, 1, 2, 0), (1, 2, 2, 0, 0)],
+        // 0; 00 breaks 0; 01; 010 breaks 1, back; 02 breaks 0, back; 1, 10, 100.
+        &[
+            (2, 0, 0, 0, 0), (2, 0, 1, 0, 0), (2, 0, 1, 1, 0), (2, 0, 2, 0, 1), (2, 0, 1, 2, 0), (2, 0, 0, 1, 0),
+            (2, 0, 1, 0, 0), (2, 0, 2, 0, 0),
+        ],
+        // 0; 00 breaks 0; 01; 011, and the seat is ready: none.
+        &[(2, 1, 0, 0, 0), (2, 1, 1, 0, 0), (2, 1, 1, 1, 0), (2, 1, 2, 1, NONE)],
+    ];
+    assert_eq!(kept_by_steps(&trolley()), by_hand.concat());
+    let said = |turns: usize| last(&format!("enter 3\nturns {}\nran-into 3\n", turns));
+    assert_eq!(said(0), "seat 3 has run into no rule");
+    for (turns, kept) in by_hand.concat().iter().enumerate() {
+        assert_eq!(said(turns + 1), words::ran_into(3, kept.4));
+    }
+}
+
+/// Rule 0, on features 2 and 0, is tested deeper than rule 1, on features 1 and 0; the rows are in the
+/// rules' order: at feature 2 only 1; at features 0 and 1 only 02 and 10. The builds are 021 and 101.
+#[test]
+fn a_lower_rule_that_is_tested_deeper() {
+    let catalogue = read(&[2, 3, 2], &[2, 2, 2, 0, 1, 0, 1, 1, 2, 2, 1, 0, 2, 0, 0, 1]).unwrap();
+    let by_hand: [&[Kept]; 7] = [
+        // 0; 00 and 01 break 1; 02; 020 breaks 0; 021.
+        &[
+            (0, 0, 0, 0, NONE), (0, 0, 1, 0, 1), (0, 0, 1, 1, 1), (0, 0, 1, 2, 1), (0, 0, 2, 0, 0),
+            (0, 0, 2, 1, 0),
+        ],
+        // 1, 10; 100 breaks 0; 101.
+        &[(0, 1, 0, 1, 0), (0, 1, 1, 0, 0), (0, 1, 2, 0, 0), (0, 1, 2, 1, 0)],
+        // 0; 00 breaks 1, back; 1, 10; 100 breaks 0; 101.
+        &[
+            (1, 0, 0, 0, 0), (1, 0, 1, 0, 1), (1, 0, 0, 1, 1), (1, 0, 1, 0, 1), (1, 0, 2, 0, 0), (1, 0, 2, 1, 0),
+        ],
+        // 0; 01 breaks 1, back; 1; 11 breaks 1: no example, and the rule stays.
+        &[(1, 1, 0, 0, 0), (1, 1, 1, 1, 1), (1, 1, 0, 1, 1), (1, 1, 1, 1, 1)],
+        // 0, 02; 020 breaks 0; 021.
+        &[(1, 2, 0, 0, 1), (1, 2, 1, 2, 1), (1, 2, 2, 0, 0), (1, 2, 2, 1, 0)],
+        // 0; 00 and 01 break 1; 02; 020 breaks 0, back to depth 0; 1, 10; 100 breaks 0, back to depth
+        // 1; 11 and 12 break 1: no example.
+        &[
+            (2, 0, 0, 0, 0), (2, 0, 1, 0, 1), (2, 0, 1, 1, 1), (2, 0, 1, 2, 1), (2, 0, 2, 0, 0), (2, 0, 0, 1, 0),
+            (2, 0, 1, 0, 0), (2, 0, 2, 0, 0), (2, 0, 1, 1, 1), (2, 0, 1, 2, 1),
+        ],
+        // 0; 00 and 01 break 1; 02; 021: ready.
+        &[(2, 1, 0, 0, 1), (2, 1, 1, 0, 1), (2, 1, 1, 1, 1), (2, 1, 1, 2, 1), (2, 1, 2, 1, NONE)],
+    ];
+    assert_eq!(kept_by_steps(&catalogue), by_hand.concat());
+}
+
+/// Rule 0, at depth 0, is never broken; rule 1 wants 1 at feature 1, rule 2, on features 1 and 0, wants
+/// 11. At depth 1 they are the first and the second.
+#[test]
+fn of_two_rules_broken_at_once_the_lower_is_named() {
+    let list = [1, 2, 0, 0, 1, 2, 2, 0, 1, 0, 1, 1, 1, 2, 1, 1, 0, 1, 1];
+    let by_hand: [&[Kept]; 4] = [
+        // 0; 00 breaks 1 and 2; 01 breaks 2 alone: no example.
+        &[(0, 0, 0, 0, NONE), (0, 0, 1, 0, 1), (0, 0, 1, 1, 2)],
+        // 1; 10 breaks both; 11.
+        &[(0, 1, 0, 1, 2), (0, 1, 1, 0, 1), (0, 1, 1, 1, 1)],
+        // 0; 00 breaks both, back; 1; 10 breaks both: no example.
+        &[(1, 0, 0, 0, 1), (1, 0, 1, 0, 1), (1, 0, 0, 1, 1), (1, 0, 1, 0, 1)],
+        // 0; 01 breaks 2, back; 1, 11: ready.
+        &[(1, 1, 0, 0, 1), (1, 1, 1, 1, 2), (1, 1, 0, 1, 2), (1, 1, 1, 1, NONE)],
+    ];
+    assert_eq!(kept_by_steps(&read(&[2, 2], &list).unwrap()), by_hand.concat());
+}
+
+#[test]
+fn the_last_of_64_rules_and_a_last_step_that_fails() {
+    // 63 rules that nothing breaks, then one that wants 1.
+    let many = format!("sizes 2\nrules{} 1 1 0 1\nopen\nenter 0\n", " 1 2 0 0 1".repeat(63));
+    assert_eq!(last(&format!("{}turns 1\nran-into 0\n", many)), "seat 0 last ran into rule 63");
+    assert_eq!(last(&format!("{}turns 2\nran-into 0\n", many)), "seat 0 has run into no rule");
+    // All 64 are broken at once.
+    let all = format!("sizes 2\nrules{}\nopen\nenter 0\nturns 1\nran-into 0\n", " 1 0 0".repeat(64));
+    assert_eq!(last(&all), "seat 0 last ran into rule 0");
+    // No row: both steps fail, the second makes the seat ready.
+    let none = "sizes 2\nrules 1 0 0\nopen\nenter 0\n";
+    assert_eq!(last(&format!("{}turns 1\nran-into 0\n", none)), "seat 0 last ran into rule 0");
+    let ready = last(&format!("{}turns 2\nseat 0\n", none));
+    assert!(ready.starts_with("seat 0: ready;") && ready.ends_with("; rule -"), "{}", ready);
+    // No rules: none is ever run into.
+    let free = "sizes 2 2\nrules\nopen\nenter 0\nturns 3\n";
+    assert_eq!(last(&format!("{}ran-into 0\n", free)), "seat 0 has run into no rule");
+}
+
+#[test]
+fn posting_readiness_and_leaving_forget_the_rule() {
+    let at_once = |script: &str| last(&format!("{}ran-into 3\n", script));
+    let none = "seat 3 has run into no rule";
+    let ready = "enter 3\nturns 39\n";
+    assert_eq!((at_once("enter 3\n"), at_once(ready)), (none.to_string(), none.to_string()));
+    // Option 0 of feature 2 alone: 0; 00 breaks 0; 01; 010 breaks 1, back; 02 breaks 0: the pair ends.
+    let chosen = format!("{}choose 3 2 0\n", ready);
+    let rules: Vec<String> = (0..6).map(|turns| at_once(&format!("{}turns {}\n", chosen, turns))).collect();
+    let expected: Vec<String> = [NONE, NONE, 0, 0, 1, 0].iter().map(|&rule| words::ran_into(3, rule)).collect();
+    assert_eq!(rules, expected);
+    // A ready seat has none, so at choosing and relaxing there is nothing to forget; leaving has.
+    let relaxed = format!("{}turns 43\nrelax 3 2\n", chosen);
+    assert_eq!(at_once(&relaxed), none);
+    assert_eq!(at_once(&format!("{}turns 4\n", relaxed)), "seat 3 last ran into rule 1");
+    let left = "enter 3\nturns 4\nleave 3\n";
+    assert_eq!(last(&format!("{}seat 3\n", left)), last("seat 3\n"));
+    assert_eq!(refusal(&format!("{}ran-into 3\n", left)), 31);
+    assert_eq!(at_once(&format!("{}enter 3\n", left)), none);
+    // Open forgets all, also where the desk does not fit.
+    assert_eq!(last("set-rule 3 9\nopen\nseat 3\n"), last("seat 3\n"));
+}
+
+#[test]
+fn a_made_up_rule_stays_until_a_step_fails() {
+    let rule_after = |setup: &str| after_step(setup, false)[0].rsplit("; ").next().unwrap().to_string();
+    // Passed, at the first depth and at the last one; the pair ends there.
+    assert_eq!(rule_after("set-work 0 0 0 0 0\nset-rule 0 1"), "rule 1");
+    let last_depth = "set-work 0 0 0 2 1\nset-trial 0 0 0\nset-trial 0 1 1\nset-rule 0";
+    assert_eq!(rule_after(&format!("{} 0", last_depth)), "rule 0");
+    assert_eq!(rule_after(&format!("{} 255", last_depth)), "rule -");
+    // Failed: 00 breaks 0.
+    let failed = "set-work 0 0 0 1 0\nset-trial 0 0 0\nset-rule 0";
+    assert_eq!(rule_after(&format!("{} 1", failed)), "rule 0");
+    assert_eq!(rule_after(&format!("{} 255", failed)), "rule 0");
+    // The last pair of all: ready, passed (211) or failed (22 breaks 0, and no candidate is greater).
+    assert_eq!(rule_after("set-work 0 2 1 2 1\nset-trial 0 0 2\nset-trial 0 1 1\nset-rule 0 1"), "rule -");
+    assert_eq!(rule_after("set-work 0 2 1 1 2\nset-trial 0 0 2\nset-rule 0 1"), "rule -");
+    // Only a rule of this depth is tested: rule 0 is broken by what was placed before.
+    let earlier = "sizes 2 2\nrules 1 1 0 1 1 1 1 1\nset-work 0 1 0 1 0\nset-trial 0 0 0";
+    assert_eq!(rule_after(earlier), "rule 1");
+    // A step is given to one seat: the others keep theirs.
+    let two = "set-work 0 0 0 0 0\nset-work 1 0 0 1 0\nset-trial 1 0 0\nset-rule 0 1\nset-rule 1 1\nset-next 1\n";
+    let desk = answers(&format!("{}turns 1\ndesk\n", two));
+    assert!(desk[8].ends_with("; rule 1") && desk[9].ends_with("; rule 0"), "{:?}", desk);
+}
+
+/// R-1's clauses of number 20: with no rule, 1, 2 and 64, in a seat that is at work, ready, closed.
+#[test]
+fn number_20_of_the_rule() {
+    let number = |rules: &str, state: &str, rule: u32| {
+        refusal(&format!("rules{}\n{}\nset-rule 4 {}\nturns 0\n", rules, state, rule))
+    };
+    let one = " 1 1 0 0";
+    for (count, above) in [(0, [0, 1, 64, 254]), (1, [1, 2, 64, 254]), (2, [2, 3, 64, 254]), (64, [64, 65, 128, 254])] {
+        let rules = one.repeat(count);
+        let at_work = "set-work 4 0 0 0 0";
+        assert!(above.iter().all(|&rule| number(&rules, at_work, rule) == 20));
+        assert_eq!(number(&rules, at_work, 255), 0);
+        assert!((0..count as u32).all(|rule| number(&rules, at_work, rule) == 0));
+        // Not at work: none alone, also where the catalogue has that rule.
+        for state in ["set-closed 4", "set-ready 4"] {
+            assert!([0, 1, 63, 64, 254].iter().all(|&rule| number(&rules, state, rule) == 20));
+            assert_eq!(number(&rules, state, 255), 0);
+        }
+    }
+    // The seat's state decides, not its place; every seat is looked at; 20 comes before 30.
+    assert_eq!(refusal("set-rule 7 0\nran-into 9\n"), 20);
+    assert_eq!(refusal("enter 3\nturns 4\nset-ready 3\nset-trial 3 0 255\nset-trial 3 1 255\nturns 0\n"), 20);
+    // A seat at work under another catalogue: rule 1 of a list that has one rule, or two.
+    let ran = "enter 3\nturns 4\n";
+    assert_eq!(refusal(&format!("{}rules{}\nturns 0\n", ran, one)), 20);
+    assert_eq!(refusal(&format!("{}rules{}\nturns 0\n", ran, one.repeat(2))), 0);
+    // What is accepted is answered.
+    assert_eq!(last("set-work 4 0 0 0 0\nset-rule 4 1\nran-into 4\n"), "seat 4 last ran into rule 1");
+}
+
+#[test]
+fn refusals_of_ran_into_in_their_order() {
+    // Any open seat: at work, ready; not a closed one.
+    assert_eq!(refusal("enter 0\nran-into 0\n"), 0);
+    assert_eq!(refusal("enter 0\nturns 39\nran-into 0\n"), 0);
+    assert_eq!(last("enter 0\nran-into 1\n"), "refused 31: seat 1 is closed");
+    for seat in [8, 9, 255, 256, 259, 65_536, 4_294_967_295u32] {
+        let words = format!("refused 30: there is no seat {}", seat);
+        assert_eq!(last(&format!("enter 0\nenter 3\nran-into {}\n", seat)), words);
+    }
+    assert_eq!(last("set-next 8\nran-into 8\n"), "refused 20: the desk does not fit the catalogue");
+    assert_eq!(refusal("set-next 8\nrules 0\nran-into 8\n"), 14);
+    assert_eq!(refusal("sizes\nrules 0\nran-into 8\n"), 10);
+    assert_eq!(refusal("board 0 0\nsizes\nran-into 8\n"), 1);
+    // Nothing beside a refusal, also where the seat has a rule.
+    let ran = "enter 3\nturns 4\n";
+    assert_eq!(last(&format!("{}set-next 8\nran-into 3\n", ran)), "refused 20: the desk does not fit the catalogue");
+    assert_eq!(last("ran-into\n"), "not understood; write: ran-into SEAT");
+    assert_eq!(last("ran-into 1 2\n"), "not understood; write: ran-into SEAT");
+    for numbers in ["8 0", "0 256", "0", "0 0 0"] {
+        assert_eq!(last(&format!("set-rule {}\n", numbers)), "not understood; write: set-rule SEAT RULE");
+    }
+}
+
+#[test]
+fn a_ready_seat_with_a_rule_is_seen() {
+    let mut record = searched(&trolley(), [NONE; 16]).1;
+    let found = builds(&trolley()).unwrap();
+    let (_, share) = shown(&trolley(), &found, &record.choices);
+    assert_eq!(wrong_when_ready(&trolley(), Some(&found), &record, &share), None);
+    record.rule = 0;
+    assert!(wrong_when_ready(&trolley(), Some(&found), &record, &share).is_some());
+    assert!(wrong_when_ready(&trolley(), None, &record, &share).is_some());
+}
+
 #[test]
 fn refusals_by_state_mask_and_width() {
     assert_eq!(refusal("enter 0\noptions 0 9\n"), 33);
@@ -606,8 +841,8 @@ fn a_line_has_at_most_65536_bytes() {
 
 #[test]
 fn the_digest_byte_by_byte() {
-    // A board of no bytes and the start's desk, but for two masks of seat 7 (258 is the bytes 2, 1):
-    // 8 × (5 zeros, 16 × 255, 32 zeros, 32 zeros, 16 × 255), then 0.
+    // A board of no bytes and the start's desk, but for a rule and two masks (258 is the bytes 2, 1):
+    // 8 × (5 zeros, 16 × 255, 32 zeros, 32 zeros, 16 × 255, 255), then 0. Seat 6 has rule 4.
     let mut h: u64 = 0;
     let mut take = |byte: u64, times: usize| {
         for _ in 0..times {
@@ -630,8 +865,9 @@ fn the_digest_byte_by_byte() {
             take(0, 32);
         }
         take(255, 16);
+        take(if seat == 6 { 4 } else { 255 }, 1);
     }
     take(0, 1);
-    let set = "set-mask 7 15 3\nset-alternatives 7 0 258\n";
+    let set = "set-mask 7 15 3\nset-alternatives 7 0 258\nset-rule 6 4\n";
     assert_eq!(last(&format!("board 0 0\n{}digest\n", set)), format!("digest {:016x}", h));
 }

@@ -302,9 +302,10 @@ fn numbers_can_be_given_back() {
 fn list_of_a_seat_at_work_and_without_a_product() {
     // The trolley has 8 pairs; the first takes 5 steps, the last 4 of 39.
     let at = |turns: u32| answers(&format!("enter 3\nenter 5\nleave 5\nturns {}\nlist 3\n", turns))[4..].to_vec();
-    assert_eq!(at(0), ["seat 3 is at work: pair 1 of 8", "at work: 3"]);
-    assert_eq!(at(4), ["seat 3 is at work: pair 1 of 8", "at work: 3"]);
-    assert_eq!(at(5), ["seat 3 is at work: pair 2 of 8", "at work: 3"]);
+    assert_eq!(at(0), ["seat 3 is at work: pair 1 of 8", "seat 3 has run into no rule", "at work: 3"]);
+    assert_eq!(at(2), ["seat 3 is at work: pair 1 of 8", "seat 3 last ran into rule 0", "at work: 3"]);
+    assert_eq!(at(4), ["seat 3 is at work: pair 1 of 8", "seat 3 last ran into rule 1", "at work: 3"]);
+    assert_eq!(at(5), ["seat 3 is at work: pair 2 of 8", "seat 3 last ran into rule 1", "at work: 3"]);
     // Pairs 4 to 6 are those of feature 1: 5 + 3 + 5 steps before.
     assert_eq!(at(12)[0], "seat 3 is at work: pair 3 of 8");
     assert_eq!(at(13)[0], "seat 3 is at work: pair 4 of 8");
@@ -327,6 +328,51 @@ fn list_of_a_seat_at_work_and_without_a_product() {
         ]
     );
     assert_eq!(answers(&format!("{}set-mask 0 2 2\nlist 0\n", none))[5], "feature 0: 0 left");
+}
+
+/// "At the end the rule that the seat last ran into": in `seat`, and so in each line of `desk`.
+#[test]
+fn the_rule_at_the_end_of_a_seats_line() {
+    let none = " -".repeat(16);
+    let zeros = numbers(16, 0);
+    let closed = format!("closed; choices{}; masks{}; alternatives{}; trial{}", none, zeros, zeros, none);
+    assert_eq!(last("seat 3\n"), format!("seat 3: {}; rule -", closed));
+    // Set on any desk; what it says is not checked here.
+    for (rule, shown) in [(0, "0"), (1, "1"), (63, "63"), (254, "254"), (255, "-")] {
+        let lines = answers(&format!("set-rule 3 {}\nseat 3\ndesk\n", rule));
+        assert_eq!(lines[0], "set");
+        assert_eq!(lines[1], format!("seat 3: {}; rule {}", closed, shown));
+        assert_eq!((&lines[2][..], &lines[6]), ("next 0", &lines[1]));
+        assert_eq!(lines[5], format!("seat 2: {}; rule -", closed));
+    }
+    // After four steps of the trolley's job: 01 placed, 010 broke rule 1.
+    let trial = format!("0 1{}", " -".repeat(14));
+    assert_eq!(
+        last("enter 3\nturns 4\nseat 3\n"),
+        format!(
+            "seat 3: at work at feature 0 option 0 depth 2 next 1; choices{}; masks{}; alternatives{}; trial {}; rule 1",
+            none, zeros, zeros, trial
+        )
+    );
+    // The state alone is set; the rule stays, and so does the digest's byte.
+    assert!(last("enter 3\nturns 4\nset-ready 3\nseat 3\n").ends_with("; rule 1"));
+    assert_ne!(last("set-rule 0 0\ndigest\n"), last("set-rule 1 0\ndigest\n"));
+    assert_eq!(last("set-rule 0 0\nset-rule 0 255\ndigest\n"), last("digest\n"));
+}
+
+/// The rule's line stands in `list` only where the seat is at work.
+#[test]
+fn the_rule_in_list() {
+    let at = |set: &str| answers(&format!("set-work 5 0 0 0 0\n{}list 5\n", set));
+    let pair = "seat 5 is at work: pair 1 of 8";
+    assert_eq!(at("")[1..], [pair, "seat 5 has run into no rule", "at work: 5"]);
+    assert_eq!(at("set-rule 5 1\n")[2..], [pair, "seat 5 last ran into rule 1", "at work: 5"]);
+    let unfit = "refused 20: the desk does not fit the catalogue";
+    assert_eq!(at("set-rule 5 2\n")[2..], [unfit, "at work: 5"]);
+    assert_eq!(answers("set-ready 5\nlist 5\n")[1..3], ["seat 5 is ready", "no product satisfies these rules"]);
+    // Counts as no call of its own: the end line counts lines.
+    let end = "end: 2 answered, 0 not understood\n";
+    assert!(String::from_utf8(whole(b"enter 5\nlist 5\n")).unwrap().ends_with(end));
 }
 
 #[test]

@@ -35,6 +35,13 @@ impl Left {
     }
 }
 
+/// Answer of the rule that a seat last ran into; no rule comes with a refusal.
+#[derive(Clone, Copy, Debug, PartialEq, Eq)]
+pub struct RanInto {
+    pub refusal: u16,
+    pub rule: u8,
+}
+
 /// Answer of turns; a refusal comes with numbers 0 and "no seat at work reported".
 #[derive(Clone, Copy, Debug, Default, PartialEq, Eq)]
 pub struct Turned {
@@ -44,6 +51,11 @@ pub struct Turned {
     /// For the checks of demand 3 only: steps given to each seat, and the turn of its last one.
     pub given: [u64; SEATS],
     pub last: [u64; SEATS],
+    /// For the tally only: steps that ran into a rule, into several at once, and those of the first
+    /// that made their seat ready.
+    pub failed: u64,
+    pub failed_several: u64,
+    pub failed_last: u64,
 }
 
 /// "Checks run from the top": 1, then 10 to 18.
@@ -72,17 +84,25 @@ impl Desk {
         Ok(catalogue)
     }
 
-    /// 1 to 20, then 30, 31 and 33: for the calls that need a ready seat.
-    fn ready_checks(&self, board: &[u8], lent: Lent, seat: u32) -> Result<Catalogue, u16> {
+    /// 1 to 20, then 30 and 31: for the calls that need an open seat.
+    fn open_checks(&self, board: &[u8], lent: Lent, seat: u32) -> Result<Catalogue, u16> {
         let catalogue = self.checks(board, lent)?;
         if seat > 7 {
             return Err(30);
         }
-        match self.seats[seat as usize].state {
-            State::Closed => Err(31),
-            State::AtWork { .. } => Err(33),
-            State::Ready => Ok(catalogue),
+        if self.seats[seat as usize].state == State::Closed {
+            return Err(31);
         }
+        Ok(catalogue)
+    }
+
+    /// 1 to 31, then 33: for the calls that need a ready seat.
+    fn ready_checks(&self, board: &[u8], lent: Lent, seat: u32) -> Result<Catalogue, u16> {
+        let catalogue = self.open_checks(board, lent, seat)?;
+        if self.seats[seat as usize].at_work() {
+            return Err(33);
+        }
+        Ok(catalogue)
     }
 
     /// "Open: board filled with 255, all seats closed, next seat 0." "Open takes no desk; a refused
@@ -110,13 +130,7 @@ impl Desk {
     }
 
     pub fn leave(&mut self, board: &mut [u8], lent: Lent, seat: u32) -> Result<(), u16> {
-        self.checks(board, lent)?;
-        if seat > 7 {
-            return Err(30);
-        }
-        if self.seats[seat as usize].state == State::Closed {
-            return Err(31);
-        }
+        self.open_checks(board, lent, seat)?;
         self.seats[seat as usize] = Record::closed();
         fill(share_of(board, seat as usize));
         Ok(())
@@ -187,6 +201,14 @@ impl Desk {
         }
     }
 
+    /// R-1: "A new call reads it from any open seat"; it "gives 1 to 31 only".
+    pub fn ran_into(&self, board: &[u8], lent: Lent, seat: u32) -> RanInto {
+        match self.open_checks(board, lent, seat) {
+            Err(refusal) => RanInto { refusal, rule: NONE },
+            Ok(_) => RanInto { refusal: 0, rule: self.seats[seat as usize].rule },
+        }
+    }
+
     /// "the sixteen bytes themselves, as they stand in the seat's share", and the refusal number.
     pub fn example<'a>(
         &self,
@@ -239,11 +261,14 @@ impl Desk {
                 None => break,
                 Some(seat) => seat,
             };
-            search::step(&catalogue, &mut self.seats[seat], share_of(board, seat));
+            let broken = search::step(&catalogue, &mut self.seats[seat], share_of(board, seat));
             self.next = ((seat + 1) % SEATS) as u8;
             turned.made += 1;
             turned.given[seat] += 1;
             turned.last[seat] = u64::from(turned.made);
+            turned.failed += u64::from(broken > 0);
+            turned.failed_several += u64::from(broken > 1);
+            turned.failed_last += u64::from(broken > 0 && !self.seats[seat].at_work());
         }
         turned.at_work = self.any_at_work();
         turned

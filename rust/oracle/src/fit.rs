@@ -3,7 +3,7 @@
 use crate::catalogue::{Catalogue, FEATURES};
 use crate::record::{Record, State, NONE};
 
-/// The clauses of number 20 in the paper's order, R-6's after them. Only the count of each tells
+/// The clauses of number 20 in the paper's order, R-6's and R-1's after them. Only the count of each tells
 /// them apart.
 #[derive(Clone, Copy, Debug, PartialEq, Eq)]
 pub enum Clause {
@@ -23,9 +23,12 @@ pub enum Clause {
     ClosedMask,
     Alternative,
     AlternativeWithoutChoice,
+    Rule,
+    RuleReady,
+    RuleClosed,
 }
 
-pub const CLAUSES: [(Clause, &str); 16] = [
+pub const CLAUSES: [(Clause, &str); 19] = [
     (Clause::Next, "next above 7"),
     (Clause::Choice, "a choice that is no option"),
     (Clause::ChoiceOfMissing, "a choice for a missing feature"),
@@ -42,6 +45,9 @@ pub const CLAUSES: [(Clause, &str); 16] = [
     (Clause::ClosedMask, "a closed seat with a mask bit"),
     (Clause::Alternative, "an alternative not below the size"),
     (Clause::AlternativeWithoutChoice, "an alternative at a feature with no choice"),
+    (Clause::Rule, "a rule not below the rule count, at work"),
+    (Clause::RuleReady, "a ready seat with a rule"),
+    (Clause::RuleClosed, "a closed seat with a rule"),
 ];
 
 /// The first clause met, if any, by the desk's next and its seats; all eight are looked at.
@@ -57,6 +63,7 @@ fn misfit_of_seat(record: &Record, catalogue: &Catalogue) -> Option<Clause> {
         .or_else(|| misfit_of_place(record, catalogue))
         .or_else(|| misfit_of_closed(record))
         .or_else(|| misfit_of_alternatives(record, catalogue))
+        .or_else(|| misfit_of_rule(record, catalogue))
 }
 
 fn misfit_of_features(record: &Record, catalogue: &Catalogue) -> Option<Clause> {
@@ -143,4 +150,18 @@ fn misfit_of_alternatives(record: &Record, catalogue: &Catalogue) -> Option<Clau
         }
     }
     None
+}
+
+/// R-1: "number 20 also when it is neither 255 nor below the rule count, or isn't 255 in a seat that
+/// is not at work".
+fn misfit_of_rule(record: &Record, catalogue: &Catalogue) -> Option<Clause> {
+    if record.rule == NONE {
+        return None;
+    }
+    match record.state {
+        State::Closed => Some(Clause::RuleClosed),
+        State::Ready => Some(Clause::RuleReady),
+        State::AtWork { .. } if usize::from(record.rule) >= catalogue.rules.len() => Some(Clause::Rule),
+        State::AtWork { .. } => None,
+    }
 }

@@ -43,6 +43,9 @@ pub fn list_seat(desk: &Desk, board: &[u8], lent: Lent, seat: u32, out: &mut Vec
             tally.see(Seen::ListAtWork);
             let (pair, pairs) = pair_of_pairs(&desk.seats[seat as usize], lent.sizes);
             say(out, &format!("seat {} is at work: pair {} of {}", seat, pair, pairs));
+            let rule = desk.ran_into(board, lent, seat).rule;
+            tally.see(if rule == NONE { Seen::ListNoRule } else { Seen::ListRule });
+            say(out, &words::ran_into(seat, rule));
         }
         refusal => {
             tally.see(Seen::ListRefused);

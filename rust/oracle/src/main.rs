@@ -1,5 +1,5 @@
-//! The independent program: says once more what document 01 says, with R-6 of document 02, and
-//! compares a console with it.
+//! The independent program: says once more what document 01 says, with of document 02,
+//! and compares a console with it.
 
 mod builds;
 mod calls;

@@ -1,6 +1,6 @@
 //! One clinic's record and what its share of the board is made of.
 
-/// No choice, no option placed, no byte of an example.
+/// No choice, no option placed, no byte of an example, no rule run into.
 pub const NONE: u8 = 255;
 /// Bytes of one seat's share, and of one example in it.
 pub const SHARE: usize = 4_096;
@@ -18,6 +18,7 @@ pub enum State {
 /// "16 choices (255 = none), 16 masks of options left (bit a for option a), and 16 bytes of trial
 /// build." "At work, trial entries before j are the options placed and entries from j on are 255."
 /// R-6: "The record gains a mask for each feature, empty where no choice is in force."
+/// R-1: "The seat's record keeps the last rule broken in this job, counted from 0; 255 for none".
 #[derive(Clone, Debug, PartialEq, Eq)]
 pub struct Record {
     pub state: State,
@@ -25,6 +26,7 @@ pub struct Record {
     pub masks: [u16; 16],
     pub alternatives: [u16; 16],
     pub trial: [u8; 16],
+    pub rule: u8,
 }
 
 impl Record {
@@ -36,6 +38,7 @@ impl Record {
             masks: [0; 16],
             alternatives: [0; 16],
             trial: [NONE; 16],
+            rule: NONE,
         }
     }
 

@@ -1,11 +1,15 @@
 //! Watches a run — "opened together and handed only from call to call, with one catalogue
-//! throughout" — and checks demands 2 and 3, with R-6, at each seat's readiness, apart from the search.
+//! throughout" — and checks demands 2 and 3, with R-6, at each seat's readiness, and what R-1 keeps
+//! until then, apart from the search.
 
 use crate::builds;
 use crate::catalogue::{self, Catalogue, FEATURES};
 use crate::desk::{Desk, Turned, BOARD, SEATS};
-use crate::record::SHARE;
+use crate::record::{NONE, SHARE};
 use crate::tally::Tally;
+
+/// Steps of a job up to which they are walked again for the rule last run into.
+const FEW_STEPS: u64 = 4_000;
 
 #[derive(Clone)]
 pub struct Run {
@@ -41,7 +45,7 @@ impl Run {
         self.turns[seat as usize] = 0;
     }
 
-    /// After an accepted turns: looks at each seat that became ready in it.
+    /// After an accepted turns: looks at each seat that was at work before it.
     pub fn turned(
         &mut self,
         before: &[bool; SEATS],
@@ -58,10 +62,35 @@ impl Run {
             self.given[seat] += turned.given[seat];
             if desk.seats[seat].at_work() {
                 self.turns[seat] += u64::from(turned.made);
+                self.at_work(seat, desk, lent, tally);
                 continue;
             }
             self.turns[seat] += turned.last[seat];
             self.ready(seat, desk, board, lent, tally);
+        }
+    }
+
+    /// R-1: the rule of a seat that is still at work.
+    fn at_work(&mut self, seat: usize, desk: &Desk, lent: (&[u8], &[u16]), tally: &mut Tally) {
+        let catalogue = match catalogue::read(lent.0, lent.1) {
+            Err(_) => return,
+            Ok(catalogue) => catalogue,
+        };
+        let (record, steps) = (&desk.seats[seat], self.given[seat]);
+        if record.rule != NONE && usize::from(record.rule) >= catalogue.rules.len() {
+            self.problems.push(format!("seat {} is at work with rule {}", seat, record.rule));
+        }
+        if steps > FEW_STEPS {
+            return;
+        }
+        let rule = builds::rule_after(&catalogue, &record.choices, steps);
+        tally.walked += 1;
+        tally.walked_into += u64::from(rule != NONE);
+        if rule != record.rule {
+            self.problems.push(format!(
+                "seat {} has rule {} after {} steps, by recursion {}",
+                seat, record.rule, steps, rule
+            ));
         }
     }
 

@@ -145,7 +145,7 @@ impl Session {
             "open" | "trolley" | "desk" | "catalogue" | "numbers" | "digest" | "help" | "quit" | "exit" => {
                 n.is_empty()
             }
-            "enter" | "leave" | "work" | "list" => within(n, &[ANY]),
+            "enter" | "leave" | "ran-into" | "work" | "list" => within(n, &[ANY]),
             "relax" | "options" | "alternatives" => within(n, &[ANY, ANY]),
             "choose" | "example" => within(n, &[ANY, ANY, ANY]),
             "turns" => within(n, &[65_535]),
@@ -159,6 +159,7 @@ impl Session {
             "set-next" => within(n, &[255]),
             "set-closed" | "set-ready" | "seat" | "share" => within(n, &[7]),
             "set-work" => within(n, &[7, 255, 255, 255, 255]),
+            "set-rule" => within(n, &[7, 255]),
             "set-choice" | "set-trial" => within(n, &[7, 15, 255]),
             "set-mask" | "set-alternatives" => within(n, &[7, 15, 65_535]),
             _ => false,

@@ -1,7 +1,7 @@
 //! One step of the written search, rules 2 to 5, on whatever record number 20 lets through. By R-6
 //! "step rule 1 goes": every pair is searched.
 
-use crate::catalogue::Catalogue;
+use crate::catalogue::{Catalogue, FEATURES};
 use crate::record::{Record, State, EXAMPLE, NONE};
 use std::ops::Range;
 
@@ -30,7 +30,7 @@ fn greater(catalogue: &Catalogue, record: &Record, i: u8, a: u8, j: u8, option: 
 }
 
 /// Posts a job: the masks are emptied, and the job starts "at pair (0, 0)". Of the alternatives "the
-/// option in force always counts; its bit is set at posting".
+/// option in force always counts; its bit is set at posting". R-1: "255 for none, at posting".
 pub fn post(catalogue: &Catalogue, record: &mut Record) {
     record.masks = [0; 16];
     record.alternatives = [0; 16];
@@ -39,6 +39,7 @@ pub fn post(catalogue: &Catalogue, record: &mut Record) {
             *alternatives = 1 << choice;
         }
     }
+    record.rule = NONE;
     start_pair(catalogue, record, 0, 0);
 }
 
@@ -51,7 +52,7 @@ fn start_pair(catalogue: &Catalogue, record: &mut Record, i: u8, a: u8) {
 }
 
 /// "Ending a pair and starting the next belong to the same step. After the last pair the seat is
-/// ready."
+/// ready." R-1: no rule "when ready"; from pair to pair it stays.
 fn end_pair(catalogue: &Catalogue, record: &mut Record, i: u8, a: u8) {
     if a + 1 < catalogue.sizes[usize::from(i)] {
         start_pair(catalogue, record, i, a + 1);
@@ -59,15 +60,23 @@ fn end_pair(catalogue: &Catalogue, record: &mut Record, i: u8, a: u8) {
         start_pair(catalogue, record, i + 1, 0);
     } else {
         record.trial = [NONE; 16];
+        record.rule = NONE;
         record.state = State::Ready;
     }
 }
 
-/// One step of a seat at work. `share` is the seat's own 4,096 bytes.
-pub fn step(catalogue: &Catalogue, record: &mut Record, share: &mut [u8]) {
+/// The rules of this depth that the build breaks, rising, by their numbers in the whole rule list.
+fn broken(catalogue: &Catalogue, depth: usize, build: &[u8; FEATURES]) -> Vec<usize> {
+    let tested = catalogue.ending_at[depth].iter().copied();
+    tested.filter(|&rule| !catalogue.rules[rule].satisfied_by(build)).collect()
+}
+
+/// One step of a seat at work. `share` is the seat's own 4,096 bytes. Answered, for the tally only:
+/// how many rules it broke.
+pub fn step(catalogue: &Catalogue, record: &mut Record, share: &mut [u8]) -> usize {
     let (i, a, j, v) = match record.state {
         State::AtWork { i, a, j, v } => (i, a, j, v),
-        State::Closed | State::Ready => return,
+        State::Closed | State::Ready => return 0,
     };
     let (feature, depth) = (usize::from(i), usize::from(j));
 
@@ -75,9 +84,13 @@ pub fn step(catalogue: &Catalogue, record: &mut Record, share: &mut [u8]) {
     //    even if it is no candidate.
     let mut build = record.trial;
     build[depth] = v;
-    let passed = catalogue.ending_at[depth]
-        .iter()
-        .all(|&rule| catalogue.rules[rule].satisfied_by(&build));
+    let rules = broken(catalogue, depth, &build);
+    let passed = rules.is_empty();
+    // R-1: the test names "the lowest-numbered rule it broke", and the record keeps it; a step that
+    // makes the seat ready, below, drops it again.
+    if let Some(&lowest) = rules.first() {
+        record.rule = lowest as u8;
+    }
 
     if passed && depth + 1 == catalogue.features() {
         if record.chosen_otherwise(feature, a) {
@@ -101,6 +114,7 @@ pub fn step(catalogue: &Catalogue, record: &mut Record, share: &mut [u8]) {
     } else {
         back(catalogue, record, i, a, j);
     }
+    rules.len()
 }
 
 /// Rule 5: "if there is none, back to the nearest earlier depth that has one greater than the option

@@ -93,6 +93,7 @@ fn set_field(record: &mut Record, word: &str, n: &[u32]) {
         "set-choice" => record.choices[n[1] as usize] = byte(2),
         "set-mask" => record.masks[n[1] as usize] = n[2] as u16,
         "set-alternatives" => record.alternatives[n[1] as usize] = n[2] as u16,
+        "set-rule" => record.rule = byte(1),
         _ => record.trial[n[1] as usize] = byte(2),
     }
 }

@@ -21,7 +21,15 @@ pub enum Seen {
     ListReady,
     ListNoProduct,
     ListAtWork,
+    ListRule,
+    ListNoRule,
     ListRefused,
+    RanIntoFirst,
+    RanIntoLater,
+    RanIntoFromTen,
+    RanIntoOtherNumber,
+    RanIntoNone,
+    RanIntoReady,
     WorkReadyAlready,
     WorkOneTurn,
     WorkOneCall,
@@ -42,7 +50,7 @@ pub enum Seen {
     FaultRowFromTen,
 }
 
-pub const SEEN: [(Seen, &str); 33] = [
+pub const SEEN: [(Seen, &str); 41] = [
     (Seen::MarkCommand, "a byte-order mark before a command"),
     (Seen::MarkRemark, "a byte-order mark before a remark"),
     (Seen::MarkBlank, "a byte-order mark before blanks or nothing"),
@@ -57,7 +65,15 @@ pub const SEEN: [(Seen, &str); 33] = [
     (Seen::ListReady, "list of a ready seat"),
     (Seen::ListNoProduct, "list without a product"),
     (Seen::ListAtWork, "list of a seat at work"),
+    (Seen::ListRule, "list of a seat at work that ran into a rule"),
+    (Seen::ListNoRule, "list of a seat at work that ran into none"),
     (Seen::ListRefused, "list refused"),
+    (Seen::RanIntoFirst, "ran-into answered with rule 0"),
+    (Seen::RanIntoLater, "ran-into answered with rules 1 to 9"),
+    (Seen::RanIntoFromTen, "ran-into answered with a rule from 10 on"),
+    (Seen::RanIntoOtherNumber, "ran-into answered with a number that isn't the rule's place at its depth"),
+    (Seen::RanIntoNone, "ran-into answered with none at a seat at work"),
+    (Seen::RanIntoReady, "ran-into answered at a ready seat"),
     (Seen::WorkReadyAlready, "work, ready already"),
     (Seen::WorkOneTurn, "work of 1 turn"),
     (Seen::WorkOneCall, "work of 2 to 65,535 turns"),
@@ -83,8 +99,9 @@ pub struct Tally {
     pub calls: [u64; CALLS.len()],
     /// By refusal number; 0 counts what was accepted.
     pub refusals: [u64; 40],
-    /// The same for the calls of alternatives alone, and for `work`.
+    /// The same for the calls of alternatives alone, of the rule run into, and for `work`.
     pub alternatives: [u64; 40],
+    pub ran_into: [u64; 40],
     pub work: [u64; 40],
     pub clauses: [u64; CLAUSES.len()],
     /// By fault number, 0 for none: what `sizes`, `rules` and `more` said, what `catalogue` showed.
@@ -95,9 +112,18 @@ pub struct Tally {
     pub steps: u64,
     /// Those of the steps that `work` asked for.
     pub work_steps: u64,
+    /// Those that ran into a rule, into several at once, and those of the first that made their seat
+    /// ready.
+    pub failed: u64,
+    pub failed_several: u64,
+    pub failed_last: u64,
     /// Seats that became ready in a run, and those of them compared with brute force.
     pub ready: u64,
     pub brute_force: u64,
+    /// Times that the rule of a seat at work in a run was found again by recursion, and those of
+    /// them with a rule.
+    pub walked: u64,
+    pub walked_into: u64,
 }
 
 impl Tally {
@@ -106,6 +132,7 @@ impl Tally {
             calls: [0; CALLS.len()],
             refusals: [0; 40],
             alternatives: [0; 40],
+            ran_into: [0; 40],
             work: [0; 40],
             clauses: [0; CLAUSES.len()],
             sizes: [0; 40],
@@ -114,8 +141,13 @@ impl Tally {
             seen: [0; SEEN.len()],
             steps: 0,
             work_steps: 0,
+            failed: 0,
+            failed_several: 0,
+            failed_last: 0,
             ready: 0,
             brute_force: 0,
+            walked: 0,
+            walked_into: 0,
         }
     }
 
@@ -131,6 +163,7 @@ impl Tally {
         add_each(&mut self.calls, &other.calls);
         add_each(&mut self.refusals, &other.refusals);
         add_each(&mut self.alternatives, &other.alternatives);
+        add_each(&mut self.ran_into, &other.ran_into);
         add_each(&mut self.work, &other.work);
         add_each(&mut self.clauses, &other.clauses);
         add_each(&mut self.sizes, &other.sizes);
@@ -139,8 +172,13 @@ impl Tally {
         add_each(&mut self.seen, &other.seen);
         self.steps += other.steps;
         self.work_steps += other.work_steps;
+        self.failed += other.failed;
+        self.failed_several += other.failed_several;
+        self.failed_last += other.failed_last;
         self.ready += other.ready;
         self.brute_force += other.brute_force;
+        self.walked += other.walked;
+        self.walked_into += other.walked_into;
     }
 
     pub fn lines(&self) -> String {
@@ -149,8 +187,13 @@ impl Tally {
             text.push_str(&format!(" {} {}", word, count));
         }
         text.push_str(&format!("; {} steps, {} of them by work\n", self.steps, self.work_steps));
+        text.push_str(&format!(
+            "steps that ran into a rule: {}, into several at once: {}, and made the seat ready: {}\n",
+            self.failed, self.failed_several, self.failed_last
+        ));
         text.push_str(&by_number("accepted", "refusals", &self.refusals, &REFUSALS));
         text.push_str(&by_number("alternatives: accepted", "refusals", &self.alternatives, &OF_ALTERNATIVES));
+        text.push_str(&by_number("ran-into: accepted", "refusals", &self.ran_into, &OF_RAN_INTO));
         text.push_str(&by_number("work: accepted", "refusals", &self.work, &OF_WORK));
         text.push_str(&by_number("sizes: good", "faults", &self.sizes, &FAULTS[..2]));
         text.push_str(&by_number("rules and more: good", "faults", &self.rules, &FAULTS));
@@ -166,6 +209,10 @@ impl Tally {
         text.push_str(&format!(
             "seats ready in runs: {}, compared with brute force: {}\n",
             self.ready, self.brute_force
+        ));
+        text.push_str(&format!(
+            "rules of seats at work in runs found again by recursion: {}, not none: {}\n",
+            self.walked, self.walked_into
         ));
         text
     }
@@ -188,6 +235,9 @@ pub const REFUSALS: [usize; 20] =
 /// Those that the call of alternatives can give: 32 is for enter only, 38 comes after 34.
 pub const OF_ALTERNATIVES: [usize; 16] =
     [1, 10, 11, 12, 13, 14, 15, 16, 17, 18, 20, 30, 31, 33, 34, 38];
+
+/// Those that the call of the rule run into can give: R-1, "1 to 31 only".
+pub const OF_RAN_INTO: [usize; 13] = [1, 10, 11, 12, 13, 14, 15, 16, 17, 18, 20, 30, 31];
 
 /// Those that `work` can give: at 33 it works, and a catalogue always has a feature 0.
 pub const OF_WORK: [usize; 13] = [1, 10, 11, 12, 13, 14, 15, 16, 17, 18, 20, 30, 31];

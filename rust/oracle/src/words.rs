@@ -5,7 +5,7 @@ use crate::desk::{Desk, Lent};
 use crate::record::{Record, State, NONE};
 
 /// Each command's form, "just as the first column has it"; the first word is the command.
-pub const FORMS: [&str; 34] = [
+pub const FORMS: [&str; 36] = [
     "open",
     "enter SEAT",
     "leave SEAT",
@@ -14,6 +14,7 @@ pub const FORMS: [&str; 34] = [
     "options SEAT FEATURE",
     "alternatives SEAT FEATURE",
     "example SEAT FEATURE OPTION",
+    "ran-into SEAT",
     "turns TURNS",
     "work SEAT",
     "trolley",
@@ -30,6 +31,7 @@ pub const FORMS: [&str; 34] = [
     "set-mask SEAT FEATURE MASK",
     "set-alternatives SEAT FEATURE MASK",
     "set-trial SEAT FEATURE OPTION",
+    "set-rule SEAT RULE",
     "seat SEAT",
     "desk",
     "share SEAT",
@@ -43,8 +45,9 @@ pub const FORMS: [&str; 34] = [
 ];
 
 /// The desk's calls, those that are counted; `work` counts as one, whatever it asks for.
-pub const CALLS: [&str; 10] =
-    ["open", "enter", "leave", "choose", "relax", "options", "alternatives", "example", "turns", "work"];
+pub const CALLS: [&str; 11] = [
+    "open", "enter", "leave", "choose", "relax", "options", "alternatives", "example", "ran-into", "turns", "work",
+];
 
 pub fn form_of(word: &str) -> Option<&'static str> {
     FORMS
@@ -160,12 +163,21 @@ pub fn mask_and_count(feature: u32, what: &str, mask: u16, count: u32) -> String
     format!("feature {}: {} {}{}{}", feature, count, what, colon, bits(mask))
 }
 
+/// The answer of `ran-into`.
+pub fn ran_into(seat: u32, rule: u8) -> String {
+    if rule == NONE {
+        format!("seat {} has run into no rule", seat)
+    } else {
+        format!("seat {} last ran into rule {}", seat, rule)
+    }
+}
+
 pub fn turned(made: u32, at_work: bool) -> String {
     let seats = if at_work { "a seat" } else { "no seat" };
     format!("{} turns made, {} is at work", made, seats)
 }
 
-/// What would follow a refusal if numbers came with it that are not 0, or a seat at work.
+/// What would follow a refusal if numbers came with it that are not 0, a seat at work, or a rule.
 pub fn beside(anything: bool, answer: String) -> String {
     if anything {
         format!("; {}", answer)
@@ -184,13 +196,14 @@ pub fn seat(number: usize, record: &Record) -> String {
     };
     let numbers = |masks: &[u16; 16]| masks.iter().map(|mask| format!(" {}", mask)).collect::<String>();
     format!(
-        "seat {}: {}; choices{}; masks{}; alternatives{}; trial{}",
+        "seat {}: {}; choices{}; masks{}; alternatives{}; trial{}; rule{}",
         number,
         state,
         entries(&record.choices),
         numbers(&record.masks),
         numbers(&record.alternatives),
-        entries(&record.trial)
+        entries(&record.trial),
+        entries(&[record.rule])
     )
 }
 
@@ -221,6 +234,7 @@ pub fn digest(desk: &Desk, board: &[u8]) -> u64 {
             bytes.extend(mask.to_le_bytes());
         }
         bytes.extend(record.trial);
+        bytes.push(record.rule);
     }
     bytes.push(desk.next);
     bytes.extend(board);

@@ -4,6 +4,7 @@
 use super::catalogues::Draft;
 use super::noise;
 use super::random::Random;
+use crate::catalogue::rules_and_fault;
 use crate::desk::{Desk, BOARD, SEATS};
 use crate::expect;
 use crate::record::{State, NONE};
@@ -74,6 +75,10 @@ impl Author {
             14 => self.line("numbers"),
             15 => self.line(&b" \t,\r# a remark, 1 2 3"[seat.min(4)..]),
             16 | 17 => noise::odd(self),
+            18..=29 => {
+                let seat = self.working().unwrap_or(seat);
+                self.line(format!("ran-into {}", seat));
+            }
             _ => {}
         }
     }
@@ -170,6 +175,9 @@ impl Author {
                     }
                 }
             }
+            if self.session.desk.seats[seat].rule != record.rule {
+                self.line(format!("set-rule {} {}", seat, record.rule));
+            }
             for feature in 0..16 {
                 let now = &self.session.desk.seats[seat];
                 let (choice, mask) = (record.choices[feature], record.masks[feature]);
@@ -213,7 +221,7 @@ impl Author {
         let feature = self.random.near(self.features());
         let known = (feature as usize).min(15);
         let option = self.random.near(self.size(known));
-        let text = match self.random.below(36) {
+        let text = match self.random.below(40) {
             0 => "open".to_string(),
             1..=4 => format!("enter {}", seat),
             5..=8 => format!("leave {}", seat),
@@ -230,9 +238,28 @@ impl Author {
                 let word = if self.is_ready_within(seat, FEW) { "work" } else { "leave" };
                 format!("{} {}", word, seat)
             }
+            32..=35 => {
+                let seat = if self.random.once_in(4) { self.random.near(SEATS) } else { seat };
+                format!("ran-into {}", seat)
+            }
             _ => format!("turns {}", self.some_turns()),
         };
         self.call(text);
+    }
+
+    /// Rules of the catalogue as it stands, those before its fault if it has one.
+    pub fn rules(&self) -> usize {
+        rules_and_fault(&self.session.sizes, &self.session.list).0.len()
+    }
+
+    /// A seat that is at work, if any is.
+    pub fn working(&mut self) -> Option<usize> {
+        let seats = &self.session.desk.seats;
+        let working: Vec<usize> = (0..SEATS).filter(|&seat| seats[seat].at_work()).collect();
+        if working.is_empty() {
+            return None;
+        }
+        Some(self.random.pick(&working))
     }
 
     /// A feature of the seat that has a choice, if any has.

@@ -36,11 +36,37 @@ pub fn large(random: &mut Random) -> Draft {
     with_rules(random, sizes, count)
 }
 
-/// Any of the two, and single features of size 1 and 16.
+/// Up to 64 rules on few features, most of them never broken, so that also one with a high number is
+/// the first that breaks; several are tested at the same feature.
+pub fn many_rules(random: &mut Random) -> Draft {
+    let features = random.between(1, 4);
+    let sizes: Vec<u8> = (0..features).map(|_| random.between(1, 4) as u8).collect();
+    let count = random.pick(&[2, 3, 8, 11, 20, 40, 63, 64]);
+    let tight = random.pick(&[2, 4, 10]);
+    let mut draft = with_rules(random, sizes, count);
+    for rule in &mut draft.rules {
+        if !random.once_in(tight) {
+            *rule = never_broken(random, &draft.sizes);
+        }
+    }
+    draft
+}
+
+/// A rule of one feature that has all its options as rows.
+pub fn never_broken(random: &mut Random, sizes: &[u8]) -> Vec<u16> {
+    let feature = random.below(sizes.len());
+    let size = u16::from(sizes[feature]);
+    let mut rule = vec![1, size, feature as u16];
+    rule.extend(0..size);
+    rule
+}
+
+/// Any of these, and single features of size 1 and 16.
 pub fn any(random: &mut Random) -> Draft {
-    match random.below(12) {
+    match random.below(13) {
         0 => large(random),
-        1 => {
+        1 => many_rules(random),
+        2 => {
             let sizes = vec![random.pick(&[1, 2, 15, 16]); random.between(1, 2)];
             let count = random.between(0, 2);
             with_rules(random, sizes, count)

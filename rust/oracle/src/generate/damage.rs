@@ -118,14 +118,7 @@ fn length(random: &mut Random, draft: &mut Draft) {
 /// 13.
 fn rule_count(random: &mut Random, draft: &mut Draft) {
     let count = random.pick(&[63, 64, 64, 64, 65, 65, 66]);
-    draft.rules = (0..count)
-        .map(|_| {
-            let feature = random.below(draft.sizes.len());
-            let mut rule = vec![1, u16::from(draft.sizes[feature]), feature as u16];
-            rule.extend(0..u16::from(draft.sizes[feature]));
-            rule
-        })
-        .collect();
+    draft.rules = (0..count).map(|_| catalogues::never_broken(random, &draft.sizes)).collect();
     match random.below(4) {
         0 => draft.rules.push(vec![random.pick(&[0, 1, 7, 65_535])]),
         1 => {

@@ -17,6 +17,11 @@ pub fn within_limits(author: &mut Author) {
         for _ in 0..author.random.between(2, 12) {
             next_call(author);
         }
+        if author.random.once_in(8) {
+            let seat = author.random.below(SEATS);
+            edge_of_rule(author, seat);
+            author.call("turns 1");
+        }
     }
 }
 
@@ -33,6 +38,10 @@ pub fn at_limits(author: &mut Author) {
         }
         for _ in 0..author.random.pick(&[1, 1, 1, 2]) {
             edge(author, seat);
+        }
+        if author.random.once_in(3) {
+            let seat = edge_of_rule(author, seat);
+            author.call(format!("ran-into {}", seat));
         }
         author.line("digest");
         let other = if author.random.once_in(3) { author.random.below(SEATS) } else { seat };
@@ -84,7 +93,7 @@ fn fitting_desk(author: &mut Author) -> Desk {
 }
 
 /// A record that 20 lets through: any choices, masks and alternatives, any place, any trial before
-/// it. The option in force may lack its bit among the alternatives.
+/// it, any rule. The option in force may lack its bit among the alternatives.
 fn fitting_record(author: &mut Author) -> Record {
     let mut record = Record::closed();
     let features = author.features();
@@ -119,8 +128,19 @@ fn fitting_record(author: &mut Author) -> Record {
         };
         let v = author.random.below(author.size(j)) as u8;
         record.state = State::AtWork { i: i as u8, a, j: j as u8, v };
+        record.rule = fitting_rule(author);
     }
     record
+}
+
+/// A rule that a seat at work may have run into, or none.
+fn fitting_rule(author: &mut Author) -> u8 {
+    let count = author.rules();
+    if count == 0 || author.random.once_in(4) {
+        return NONE;
+    }
+    let any = author.random.below(count);
+    author.random.pick(&[0, count - 1, any, any]) as u8
 }
 
 fn has_choice(record: &Record) -> bool {
@@ -157,6 +177,10 @@ fn next_call(author: &mut Author) {
             }
         }
         _ if author.random.once_in(6) => author.any_call(seat),
+        _ if author.random.once_in(8) => {
+            let seat = author.working().unwrap_or(seat);
+            author.call(format!("ran-into {}", seat));
+        }
         _ if author.random.once_in(12) && author.work(seat as u32) => {}
         _ => {
             let turns = author.random.pick(&[1, 1, 1, 1, 2, 3, 5, 8, 40]);
@@ -259,6 +283,18 @@ fn edge_of_alternatives(author: &mut Author, seat: usize, kind: usize) -> String
         }
     };
     format!("set-alternatives {} {} {}", seat, feature, mask & 65_535)
+}
+
+/// A rule at either side of its clauses: in this seat, whatever its state is, or in one at work,
+/// where there is one. Answered: the seat that has it.
+fn edge_of_rule(author: &mut Author, seat: usize) -> usize {
+    let working = author.working().unwrap_or(seat);
+    let seat = if author.random.once_in(3) { seat } else { working };
+    let count = author.rules();
+    let below = count.saturating_sub(1);
+    let rule = author.random.pick(&[0, 0, 1, below, below, below, count, count + 1, 63, 64, 254, 255, 255]);
+    author.line(format!("set-rule {} {}", seat, rule));
+    seat
 }
 
 /// The seat's place, or a place that fits: depth 0 with first options.

@@ -63,7 +63,7 @@ pub fn script(seed: u64) -> Script {
 }
 
 fn section(author: &mut Author) {
-    match author.random.below(40) {
+    match author.random.below(44) {
         0..=9 => runs::run(author),
         10 => runs::large_run(author),
         11 | 12 => runs::trolley(author),
@@ -72,6 +72,7 @@ fn section(author: &mut Author) {
         30..=36 => damaged(author),
         37 => board_length(author),
         38 => noise::noise(author),
+        39..=42 => runs::watched(author),
         _ => {
             if author.random.once_in(2) {
                 noise::long(author)
@@ -123,6 +124,10 @@ fn some_seats_open(author: &mut Author) {
         let seat = author.random.below(SEATS);
         if author.random.once_in(4) {
             author.line(format!("set-work {} 0 0 0 0", seat));
+            if author.random.once_in(3) {
+                // It fits a catalogue that has a rule.
+                author.line(format!("set-rule {} 0", seat));
+            }
         } else {
             author.line(format!("set-ready {}", seat));
         }
@@ -156,7 +161,7 @@ mod tests {
     use super::{script, text};
     use crate::expect::transcript;
     use crate::fit::CLAUSES;
-    use crate::tally::{Tally, FAULTS, OF_ALTERNATIVES, OF_WORK, REFUSALS, SEEN};
+    use crate::tally::{Tally, FAULTS, OF_ALTERNATIVES, OF_RAN_INTO, OF_WORK, REFUSALS, SEEN};
 
     #[test]
     fn a_seed_repeats_its_script_and_the_script_its_transcript() {
@@ -172,6 +177,7 @@ mod tests {
         for (name, known, counts) in [
             ("refusal", &REFUSALS[..], &tally.refusals),
             ("of alternatives", &OF_ALTERNATIVES[..], &tally.alternatives),
+            ("of ran-into", &OF_RAN_INTO[..], &tally.ran_into),
             ("of work", &OF_WORK[..], &tally.work),
             ("fault by sizes", &FAULTS[..2], &tally.sizes),
             ("fault by rules", &FAULTS[..], &tally.rules),
@@ -180,6 +186,9 @@ mod tests {
             if let Some(number) = known.iter().chain(&[0]).find(|&&number| counts[number] == 0) {
                 return Some(format!("{} {}", name, number));
             }
+        }
+        if tally.failed == 0 || tally.failed_several == 0 || tally.failed_last == 0 {
+            return Some("steps that run into a rule".to_string());
         }
         let clauses = CLAUSES.iter().zip(&tally.clauses).map(|((_, name), count)| (name, count));
         let lines = SEEN.iter().zip(&tally.seen).map(|((_, name), count)| (name, count));
@@ -199,5 +208,6 @@ mod tests {
         assert_eq!(missing(&tally), None, "{}", tally.lines());
         assert!(tally.calls.iter().all(|&count| count > 0));
         assert!(tally.brute_force > 0);
+        assert!(tally.walked > tally.walked_into && tally.walked_into > 0);
     }
 }

@@ -7,7 +7,7 @@ use crate::script::MARK;
 use crate::words::FORMS;
 
 /// Lines whole as they stand; none of them asks for `help` or ends the script.
-const ODD: [&[u8]; 93] = [
+const ODD: [&[u8]; 110] = [
     b"", b" ", b"\t, \r", b"\r", b"# a remark, 1 2 3", b"#", b"#open\r", b" # after a space", b"opne",
     b"Open", b"OPEN", b"open 1", b"open x", b"open,", b",\topen\r", b"3 3 2", b"0", b"enter",
     b"enter 1 2", b"enter -1", b"enter +1", b"enter 1.0", b"enter 0x1", b"enter 4294967296",
@@ -23,7 +23,10 @@ const ODD: [&[u8]; 93] = [
     b"exit x", b"Exit", b"exits", b"exi", b"exit\x00", b"exit#", b"quit#", b"work", b"work x",
     b"work 4294967296", b"enter 3 # our clinic", b"digest #", b"digest#", b"digest# #", b"enter # 3",
     b"turns 0,#,1", b"turns 0\t##", b"turns 0\r# 1 # 2", b"turns 0#", b"turns 0# 1", b"turns 0#1 # 2",
-    b"turns 0\x0b# none", b"digest \xef\xbb\xbf# none", b"digest # \xff\x00\x80",
+    b"turns 0\x0b# none", b"digest \xef\xbb\xbf# none", b"digest # \xff\x00\x80", b"ran-into",
+    b"ran-into x", b"ran-into 1 2", b"ran-into 4294967296", b"ran-into,3 # rule", b"ran-into3", b"ran into 3",
+    b"ran_into 3", b"Ran-into 3", b"ran-int 3", b"ran-intos 3", b"ran- 3", b"set-rule 0", b"set-rule 0 256",
+    b"set-rule 8 255", b"set-rule 0 0 255", b"set-rules 0 255",
 ];
 
 /// What a remark may hold after its `#`: all that would be something if it were not passed over.

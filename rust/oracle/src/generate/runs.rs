@@ -52,6 +52,38 @@ pub fn long_work(author: &mut Author) {
     author.line(format!("list {}", seats[0]));
 }
 
+/// A run watched closely: few turns at a time, and after each a look at the rule last run into.
+pub fn watched(author: &mut Author) {
+    let draft = match author.random.below(3) {
+        0 => catalogues::small(&mut author.random),
+        _ => catalogues::many_rules(&mut author.random),
+    };
+    begin(author, &draft);
+    let mut seats = some_seats(author);
+    seats.truncate(3);
+    for _ in 0..author.random.between(10, 60) {
+        let seat = author.random.pick(&seats);
+        match author.session.desk.seats[seat].state {
+            State::AtWork { .. } if !author.random.once_in(30) => {
+                let turns = author.random.pick(&[1, 1, 1, 2, 3, 5, 9, 30]);
+                author.call(format!("turns {}", turns));
+            }
+            _ => next_call(author, &seats),
+        }
+        look_at_rule(author, seat);
+    }
+}
+
+/// Looks that show the seat's rule; after each call the digest has shown it already.
+fn look_at_rule(author: &mut Author, seat: usize) {
+    match author.random.below(8) {
+        0..=3 => author.line(format!("ran-into {}", seat)),
+        4 | 5 => author.line(format!("seat {}", seat)),
+        6 => author.line(format!("list {}", seat)),
+        _ => {}
+    }
+}
+
 /// The trolley as the paper has it, in the middle of other things.
 pub fn trolley(author: &mut Author) {
     author.line("trolley");
@@ -104,6 +136,8 @@ fn next_call(author: &mut Author, seats: &[usize]) {
         State::AtWork { .. } => {
             if author.random.once_in(25) {
                 author.call(format!("leave {}", seat));
+            } else if author.random.once_in(15) {
+                author.call(format!("ran-into {}", seat));
             } else if !author.random.once_in(12) || !author.work(seat as u32) {
                 let turns = author.some_turns();
                 author.call(format!("turns {}", turns));
@@ -118,7 +152,7 @@ fn ready_call(author: &mut Author, seat: usize) {
     let feature = author.random.below(features);
     let option = author.random.below(author.size(feature));
     let chosen = author.chosen(seat);
-    let kind = match author.random.below(28) {
+    let kind = match author.random.below(29) {
         // No choice yet: one is made instead.
         20..=24 if chosen.is_none() => 0,
         kind => kind,
@@ -147,6 +181,7 @@ fn ready_call(author: &mut Author, seat: usize) {
             author.call(format!("{} {} {} {}", word, seat, feature, option));
         }
         26 => author.call(format!("work {}", seat)),
+        27 => author.call(format!("ran-into {}", seat)),
         _ => author.call(format!("choose {} {} {}", seat, feature, option)),
     }
 }
