@@ -8,7 +8,7 @@ use crate::writing::text;
 
 // A command's number is its line here, and its word the line's first. The calls stand first, then what sets catalogue
 // and board, then the desk's fields, then looking.
-pub const FORMS: [u8; 548] = *b"open
+pub const FORMS: [u8; 581] = *b"open
 enter SEAT
 leave SEAT
 choose SEAT FEATURE OPTION
@@ -16,6 +16,7 @@ relax SEAT FEATURE
 options SEAT FEATURE
 alternatives SEAT FEATURE
 example SEAT FEATURE OPTION
+ran-into SEAT
 turns TURNS
 work SEAT
 trolley
@@ -32,6 +33,7 @@ set-choice SEAT FEATURE OPTION
 set-mask SEAT FEATURE MASK
 set-alternatives SEAT FEATURE MASK
 set-trial SEAT FEATURE OPTION
+set-rule SEAT RULE
 seat SEAT
 desk
 share SEAT
@@ -60,59 +62,63 @@ pub const ALTERNATIVES: usize = 6;
 
 pub const EXAMPLE: usize = 7;
 
-pub const TURNS: usize = 8;
+pub const RAN_INTO: usize = 8;
 
-pub const WORK: usize = 9;
+pub const TURNS: usize = 9;
 
-pub const TROLLEY: usize = 10;
+pub const WORK: usize = 10;
 
-pub const SIZES: usize = 11;
+pub const TROLLEY: usize = 11;
 
-pub const RULES: usize = 12;
+pub const SIZES: usize = 12;
 
-pub const MORE: usize = 13;
+pub const RULES: usize = 13;
 
-pub const BOARD: usize = 14;
+pub const MORE: usize = 14;
 
-pub const SET_BYTE: usize = 15;
+pub const BOARD: usize = 15;
 
-pub const SET_NEXT: usize = 16;
+pub const SET_BYTE: usize = 16;
 
-pub const SET_CLOSED: usize = 17;
+pub const SET_NEXT: usize = 17;
 
-pub const SET_READY: usize = 18;
+pub const SET_CLOSED: usize = 18;
 
-pub const SET_WORK: usize = 19;
+pub const SET_READY: usize = 19;
 
-pub const SET_CHOICE: usize = 20;
+pub const SET_WORK: usize = 20;
 
-pub const SET_MASK: usize = 21;
+pub const SET_CHOICE: usize = 21;
 
-pub const SET_ALTERNATIVES: usize = 22;
+pub const SET_MASK: usize = 22;
 
-pub const SET_TRIAL: usize = 23;
+pub const SET_ALTERNATIVES: usize = 23;
 
-pub const SEAT: usize = 24;
+pub const SET_TRIAL: usize = 24;
 
-pub const DESK: usize = 25;
+pub const SET_RULE: usize = 25;
 
-pub const SHARE: usize = 26;
+pub const SEAT: usize = 26;
 
-pub const LIST: usize = 27;
+pub const DESK: usize = 27;
 
-pub const CATALOGUE: usize = 28;
+pub const SHARE: usize = 28;
 
-pub const NUMBERS: usize = 29;
+pub const LIST: usize = 29;
 
-pub const DIGEST: usize = 30;
+pub const CATALOGUE: usize = 30;
 
-pub const HELP: usize = 31;
+pub const NUMBERS: usize = 31;
 
-pub const QUIT: usize = 32;
+pub const DIGEST: usize = 32;
 
-pub const EXIT: usize = 33;
+pub const HELP: usize = 33;
 
-pub const NONE: usize = 34;
+pub const QUIT: usize = 34;
+
+pub const EXIT: usize = 35;
+
+pub const NONE: usize = 36;
 
 // A command, and where its form stands.
 pub struct Form {
@@ -214,6 +220,7 @@ fn most(command: usize, i: usize) -> u32 {
         TURNS | RULES | MORE => 65535,
         SIZES | SET_NEXT => 255,
         BOARD | SET_BYTE => { if i == 0 { 40000 } else { 255 } }
+        SET_RULE => { if i == 0 { 7 } else { 255 } }
         SET_CLOSED | SET_READY | SEAT | SHARE => 7,
         SET_WORK | SET_CHOICE | SET_MASK | SET_ALTERNATIVES | SET_TRIAL => {
             most_of_field(command, i)

@@ -42,6 +42,16 @@ pub fn turns_made(made: u16, working: bool) {
     }
 }
 
+// Which rule the search of a seat ran into last; 255 is none.
+pub fn rule_met(seat: u32, rule: u8) {
+    if rule == 255 {
+        around(b"seat ", seat as u64, b" has run into no rule");
+    } else {
+        around(b"seat ", seat as u64, b" last ran into rule ");
+        number(rule as u64);
+    }
+}
+
 // The bits of a mask, rising.
 pub fn options_of(mask: u16) {
     let mut rest = mask;

@@ -19,6 +19,7 @@ pub fn record(seat: Seat) {
     let left = seat.masks;
     let trial = seat.trial;
     let alternatives = seat.alternatives;
+    let rule = [seat.broken];
     match state {
         State::Closed => text(b"closed"),
         State::Ready => text(b"ready"),
@@ -32,6 +33,8 @@ pub fn record(seat: Seat) {
     masks(&alternatives);
     text(b"; trial");
     entries(&trial);
+    text(b"; rule");
+    entries(&rule);
     text(b"\n");
 }
 

@@ -8,11 +8,13 @@ pub fn of_seat(h: u64, seat: Seat) -> u64 {
     let masks = seat.masks;
     let trial = seat.trial;
     let alternatives = seat.alternatives;
+    let rule = [seat.broken];
     let with_state = fold(h, &state_bytes(state));
     let with_choices = fold(with_state, &choices);
     let with_masks = fold_masks(with_choices, &masks);
     let with_alternatives = fold_masks(with_masks, &alternatives);
-    fold(with_alternatives, &trial)
+    let with_trial = fold(with_alternatives, &trial);
+    fold(with_trial, &rule)
 }
 
 // The state's number and the place.

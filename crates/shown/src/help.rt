@@ -20,7 +20,7 @@ help lists the rest; quit ends.
 
 ";
 
-const HELP: [u8; 2323] = *b"The desk's fields, set by hand to try what is refused:
+const HELP: [u8; 2468] = *b"The desk's fields, set by hand to try what is refused:
   set-next SEAT                    where the next turn begins to look
   set-closed SEAT                  the state of a seat: closed
   set-ready SEAT                   the state of a seat: ready
@@ -29,6 +29,7 @@ const HELP: [u8; 2323] = *b"The desk's fields, set by hand to try what is refuse
   set-mask SEAT FEATURE MASK       one mask of options left
   set-alternatives SEAT FEATURE MASK        one mask of alternatives
   set-trial SEAT FEATURE OPTION    one entry of the trial; 255 is none
+  set-rule SEAT RULE               the rule last run into; 255 is none
   board LENGTH BYTE                a board of so many bytes, all the same
   set-byte PLACE BYTE              one byte of the board
   seat SEAT                        a seat's record
@@ -50,6 +51,7 @@ The desk:
   work SEAT                        turns until the seat is ready
   turns TURNS                      so many turns, at most 65535
   list SEAT                        what a seat shows, or how far its search is
+  ran-into SEAT                    the rule that its search last ran into
   options SEAT FEATURE             the options left of one feature
   example SEAT FEATURE OPTION      the first product with that option
   choose SEAT FEATURE OPTION       a ready seat takes an option that is left

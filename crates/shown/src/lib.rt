@@ -9,6 +9,7 @@ mod refusal;
 pub use acceptance::accepted;
 pub use acceptance::beside;
 pub use acceptance::options_of;
+pub use acceptance::rule_met;
 pub use acceptance::turns_made;
 pub use clinic::named_at_work;
 pub use clinic::nothing_left;

@@ -4,10 +4,10 @@ use Rattle.lines.proofs.commands.find.Statement.{statement}
 use Rattle.lines.proofs.commands.find.Tie as tie
 
 abbrev Inv-loop : tie.InvT-loop
-Inv-loop forms word from₀ command₀ from command = command ≤ 34
+Inv-loop forms word from₀ command₀ from command = command ≤ 36
 
 abbrev μ-loop : tie.MeasureT-loop
-μ-loop forms word from₀ command₀ from command = 34 - command
+μ-loop forms word from₀ command₀ from command = 36 - command
 
 loop-holds : tie.Need-loop-holds Inv-loop μ-loop
 loop-holds c = search needs
