@@ -2,6 +2,7 @@
 use desk::Changed;
 use desk::Desk;
 use desk::Left;
+use desk::Ran;
 use desk::Turned;
 use lines::around;
 use lines::commands::ALTERNATIVES;
@@ -11,6 +12,7 @@ use lines::commands::EXAMPLE;
 use lines::commands::LEAVE;
 use lines::commands::OPEN;
 use lines::commands::OPTIONS;
+use lines::commands::RAN_INTO;
 use lines::commands::RELAX;
 use lines::commands::TURNS;
 use lines::entries;
@@ -22,6 +24,7 @@ use shown::beside;
 use shown::option_of_feature;
 use shown::options_of;
 use shown::refused;
+use shown::rule_met;
 use shown::turns_made;
 
 pub fn call(
@@ -43,6 +46,10 @@ pub fn call(
         }
         EXAMPLE => {
             example(desk, board, sizes, rules, asked);
+            desk
+        }
+        RAN_INTO => {
+            ran_into(desk, board, sizes, rules, asked);
             desk
         }
         TURNS => turns(desk, board, sizes, rules, asked),
@@ -200,6 +207,30 @@ pub fn example_bytes<'a>(
     let i = asked.feature as usize;
     let a = asked.option as usize;
     desk::example(desk, board, sizes, rules, c, i, a)
+}
+
+// A refusal answers rule 0; were it another, it would be seen.
+pub fn ran_into(desk: Desk, board: &[u8], sizes: &[u8], rules: &[u16], asked: Asked) {
+    let ran = ran(desk, board, sizes, rules, asked.seat);
+    let refusal = ran.number;
+    if refusal == 0 {
+        rule_met(asked.seat, ran.rule);
+    } else {
+        refused(refusal, lengths(board, sizes, rules), asked);
+        rule_beside(asked.seat, ran.rule);
+    }
+    text(b"\n");
+}
+
+fn rule_beside(seat: u32, rule: u8) {
+    if rule != 0 {
+        text(b"; ");
+        rule_met(seat, rule);
+    }
+}
+
+fn ran(desk: Desk, board: &[u8], sizes: &[u8], rules: &[u16], c: u32) -> Ran {
+    desk::ran_into(desk, board, sizes, rules, c as usize)
 }
 
 pub fn lengths(board: &[u8], sizes: &[u8], rules: &[u16]) -> Lengths {

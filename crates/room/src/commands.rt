@@ -17,7 +17,7 @@ use lines::commands::LIST;
 use lines::commands::NUMBERS;
 use lines::commands::SEAT;
 use lines::commands::SET_BYTE;
-use lines::commands::SET_TRIAL;
+use lines::commands::SET_RULE;
 use lines::commands::SHARE;
 use lines::commands::WORK;
 use lines::least;
@@ -39,7 +39,7 @@ pub fn obey(
     if command <= SET_BYTE {
         return setup::set(room, board, sizes, rules, command, numbers);
     }
-    if command <= SET_TRIAL {
+    if command <= SET_RULE {
         let desk = fields::set(room.desk, command, numbers);
         text(b"set\n");
         return with_desk(room, desk);

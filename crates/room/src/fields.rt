@@ -7,6 +7,7 @@ use lines::commands::SET_CLOSED;
 use lines::commands::SET_MASK;
 use lines::commands::SET_NEXT;
 use lines::commands::SET_READY;
+use lines::commands::SET_RULE;
 use lines::commands::SET_WORK;
 use seat::Place;
 use seat::Seat;
@@ -31,6 +32,7 @@ fn set_seat(seat: Seat, command: usize, numbers: &[u32]) -> Seat {
         SET_CLOSED => with_state(seat, State::Closed),
         SET_READY => with_state(seat, State::Ready),
         SET_WORK => with_state(seat, State::AtWork(place(numbers))),
+        SET_RULE => with_rule(seat, byte(numbers, 1)),
         _ => with_entry(seat, command, numbers),
     }
 }
@@ -52,6 +54,12 @@ fn with_entry(seat: Seat, command: usize, numbers: &[u32]) -> Seat {
 
 fn with_state(seat: Seat, state: State) -> Seat {
     Seat { state, ..seat }
+}
+
+fn with_rule(seat: Seat, rule: u8) -> Seat {
+    let mut changed = seat;
+    changed.broken = rule;
+    changed
 }
 
 fn with_seat(desk: Desk, c: usize, seat: Seat) -> Desk {

@@ -3,6 +3,7 @@ use crate::calls::example_bytes;
 use crate::calls::left;
 use crate::calls::lengths;
 use crate::calls::options_of_feature;
+use crate::calls::ran_into;
 use crate::calls::replacing;
 use crate::work::no_product;
 use crate::work::record_of;
@@ -28,6 +29,7 @@ pub fn list(desk: Desk, board: &[u8], sizes: &[u8], rules: &[u16], seat: u32) {
         around(b"seat ", seat as u64, b" is at work: ");
         pair(record_of(desk, seat), sizes);
         text(b"\n");
+        ran_into(desk, board, sizes, rules, asked(seat, 0, 0));
     } else {
         refused(refusal, lengths(board, sizes, rules), asked(seat, 0, 0));
         text(b"\n");
