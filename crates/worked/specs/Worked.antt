@@ -1,12 +1,15 @@
 -- The worked cases P1 to P10, one list: what the definitions give, and what the paper says; then the alternatives, on the
--- trolley and on Example 1 of document 002, whose Table 1 has them. The claim that they agree is one line, proofs/Worked.antt.
+-- trolley and on Example 1 of document 002, whose Table 1 has them; then the rule kept after each step of a job, worked by hand
+-- from the paper's search. The claim that they agree is one line, proofs/Worked.antt.
 use Prim.Native.Nat.{ℕ, _+_}
 use mathlib.Core.Bool.{cond}
 use mathlib.Core.List.{List, [], _∷_, map}
 use lib.ListN.{getD, take, replicate}
 use lib.Dec.{eqb}
+use Rattle.builds.specs.Lists.{countFrom}
 use Rattle.builds.specs.Rule.{Rule}
 use Rattle.builds.specs.Catalogue.{Catalogue, rulesOf}
+use Rattle.builds.specs.Fault.{faultOf}
 use Rattle.builds.specs.ListedBuilds.{builds}
 use Rattle.search.specs.declared.State.{State}
 use Rattle.search.specs.declared.State.the-variants.{Closed, Ready, AtWork}
@@ -61,6 +64,25 @@ support place option (row ∷ rows) = cond (eqb (getD row place 255) option) 1 0
 -- the support of each of two options at each of two features
 unfoldable pub supports : Rule → List ℕ
 supports rule = support 0 0 (rule .rows) ∷ support 0 1 (rule .rows) ∷ support 1 0 (rule .rows) ∷ support 1 1 (rule .rows) ∷ []
+
+-- the last rule broken, as posted and after each of so many steps of a fresh job; 255 for none
+unfoldable pub rulesKept : Catalogue → ℕ → List ℕ
+rulesKept catalogue k = map (λ (n : ℕ). jobAfter catalogue noChoices n .seat .broken) (countFrom 0 (k + 1))
+
+-- sizes 2, 3, 2; rule 0 on features 2, 0, tested one deeper than rule 1 on features 1, 0; builds 021 and 101
+unfoldable pub deeperFirst : Catalogue
+deeperFirst = record {
+  sizes = 2 ∷ 3 ∷ 2 ∷ [];
+  list = 2 ∷ 2 ∷ 2 ∷ 0 ∷ 1 ∷ 0 ∷ 1 ∷ 1 ∷ 2 ∷ 2 ∷ 1 ∷ 0 ∷ 2 ∷ 0 ∷ 0 ∷ 1 ∷ [];
+}
+
+-- sizes 2, 2; rule 0 on feature 0, which every option satisfies; rules 1 and 2 on both, which 00 and 10 break both and 01 only
+-- the second; build 11
+unfoldable pub bothBroken : Catalogue
+bothBroken = record {
+  sizes = 2 ∷ 2 ∷ [];
+  list = 1 ∷ 2 ∷ 0 ∷ 0 ∷ 1 ∷ 2 ∷ 2 ∷ 0 ∷ 1 ∷ 0 ∷ 1 ∷ 1 ∷ 1 ∷ 2 ∷ 1 ∷ 1 ∷ 0 ∷ 1 ∷ 1 ∷ [];
+}
 
 unfoldable pub cases : List Case
 cases =
@@ -117,5 +139,45 @@ cases =
           ∷ lengths allDifferent twoChosen 38 39;
       expected = (1 ∷ 8 ∷ 6 ∷ []) ∷ (7 ∷ 14 ∷ 0 ∷ [])
           ∷ (4 ∷ 3 ∷ 3 ∷ 2 ∷ 2 ∷ 5 ∷ 4 ∷ 4 ∷ 3 ∷ 3 ∷ 3 ∷ 3 ∷ []) ∷ (39 ∷ []) ∷ (2 ∷ []) ∷ (1 ∷ []) ∷ [];
+    }
+    -- the rule kept on the trolley, A being 0 and B being 1: as posted, then a line for each of P6's pairs
+    ∷ record {
+      number = 14;
+      given = rulesKept trolley 39 ∷ [];
+      expected = (255
+          ∷ 255 ∷ 0 ∷ 0 ∷ 1 ∷ 1
+          ∷ 1 ∷ 1 ∷ 1
+          ∷ 1 ∷ 0 ∷ 0 ∷ 1 ∷ 1
+          ∷ 1 ∷ 0 ∷ 0 ∷ 0 ∷ 0
+          ∷ 0 ∷ 0 ∷ 1 ∷ 1
+          ∷ 1 ∷ 0 ∷ 0 ∷ 0 ∷ 0
+          ∷ 0 ∷ 0 ∷ 0 ∷ 1 ∷ 0 ∷ 0 ∷ 0 ∷ 0
+          ∷ 0 ∷ 0 ∷ 0 ∷ 255 ∷ [])
+          ∷ [];
+    }
+    -- rule 0 is tested deeper than rule 1: the last one broken is kept, not the lowest so far
+    ∷ record {
+      number = 15;
+      given = rulesKept deeperFirst 39 ∷ (faultOf deeperFirst ∷ []) ∷ lengths deeperFirst noChoices 38 39;
+      expected = (255
+          ∷ 255 ∷ 1 ∷ 1 ∷ 1 ∷ 0 ∷ 0
+          ∷ 0 ∷ 0 ∷ 0 ∷ 0
+          ∷ 0 ∷ 1 ∷ 1 ∷ 1 ∷ 0 ∷ 0
+          ∷ 0 ∷ 1 ∷ 1 ∷ 1
+          ∷ 1 ∷ 1 ∷ 0 ∷ 0
+          ∷ 0 ∷ 1 ∷ 1 ∷ 1 ∷ 0 ∷ 0 ∷ 0 ∷ 0 ∷ 1 ∷ 1
+          ∷ 1 ∷ 1 ∷ 1 ∷ 1 ∷ 255 ∷ [])
+          ∷ (0 ∷ []) ∷ (6 ∷ 4 ∷ 6 ∷ 4 ∷ 4 ∷ 10 ∷ 5 ∷ []) ∷ (39 ∷ []) ∷ (2 ∷ []) ∷ (1 ∷ []) ∷ [];
+    }
+    -- rules 1 and 2 are tested at one depth: of two broken at once the lower-numbered is kept
+    ∷ record {
+      number = 16;
+      given = rulesKept bothBroken 14 ∷ (faultOf bothBroken ∷ []) ∷ lengths bothBroken noChoices 13 14;
+      expected = (255
+          ∷ 255 ∷ 1 ∷ 2
+          ∷ 2 ∷ 1 ∷ 1
+          ∷ 1 ∷ 1 ∷ 1 ∷ 1
+          ∷ 1 ∷ 2 ∷ 2 ∷ 255 ∷ [])
+          ∷ (0 ∷ []) ∷ (3 ∷ 3 ∷ 4 ∷ 4 ∷ []) ∷ (14 ∷ []) ∷ (2 ∷ []) ∷ (1 ∷ []) ∷ [];
     }
     ∷ []
