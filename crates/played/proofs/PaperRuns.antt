@@ -2,7 +2,7 @@
 use mathlib.Core.Path.{_≡_, refl}
 use mathlib.Core.List.{[], _∷_}
 use Rattle.played.specs.PaperRuns.{eightSeats, eightSeatsExpected, listed, listedExpected, numbers, numbersExpected}
-use Rattle.played.specs.PaperRuns.{replacing, replacingExpected}
+use Rattle.played.specs.PaperRuns.{replacing, replacingExpected, ranInto, ranIntoExpected}
 use Rattle.played.specs.PaperRuns.{seatAfter, unassigned, assignedOne, assignedTwo}
 use Rattle.search.specs.Clinic.{closedSeat}
 use Rattle.runs.specs.declared.Asking.the-variants.{Enter, Choose}
@@ -24,6 +24,10 @@ the-numbers = refl
 pub what-could-replace : replacing ≡ replacingExpected
 unfolding computing
 what-could-replace = refl
+
+pub which-rule : ranInto ≡ ranIntoExpected
+unfolding computing
+which-rule = refl
 
 pub nothing-assigned : seatAfter closedSeat (asks 5 Enter ∷ turns 67 ∷ []) ≡ unassigned
 unfolding computing

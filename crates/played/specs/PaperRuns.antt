@@ -8,12 +8,12 @@ use Rattle.search.specs.declared.State.the-variants.{Ready}
 use Rattle.search.specs.Clinic.{nothing16, closedSeat}
 use Rattle.runs.specs.declared.Desk.{Desk}
 use Rattle.runs.specs.Room.{Room, seatAt, emptyBoard}
-use Rattle.runs.specs.declared.Asking.the-variants.{Enter, Choose, Read}
-use Rattle.runs.specs.declared.Reading.the-variants.{Alternatives, Example}
-use Rattle.runs.specs.Call.{Call, asks, turns}
+use Rattle.runs.specs.declared.Asking.the-variants.{Enter, Leave, Choose, Read}
+use Rattle.runs.specs.declared.Reading.the-variants.{Alternatives, Example, RanInto}
+use Rattle.runs.specs.Call.{Call, Answer, asks, turns}
 use Rattle.runs.specs.Turn.{turn}
 use Rattle.runs.specs.RefusalTable.{refusal}
-use Rattle.runs.specs.Perform.{opening}
+use Rattle.runs.specs.Perform.{opening, perform}
 use Rattle.runs.specs.Run.{afterCalls}
 use Rattle.search.specs.Trolley.{trolley, allDifferent, firstChosen, twoChosen}
 use Rattle.worked.specs.Worked.{stateNumber}
@@ -96,6 +96,31 @@ numbers =
 unfoldable pub numbersExpected : List ℕ
 numbersExpected = 36 ∷ 36 ∷ 33 ∷ 35 ∷ []
 
+-- The number and the rule that each of some calls answers, the desk being handed from call to call; neither depends on what the
+-- board holds, so that the empty one serves.
+unfoldable pub numberAndRule : Answer → List ℕ
+numberAndRule answer = answer .number ∷ answer .rule ∷ []
+
+unfoldable pub answeredAlong : List Call → Desk → List (List ℕ)
+answeredAlong [] desk = []
+answeredAlong (call ∷ calls) desk =
+    let outcome = perform trolley call (record { desk = desk; board = emptyBoard }) in
+    numberAndRule (outcome .answer) ∷ answeredAlong calls (outcome .room .desk)
+
+-- Which rule seat 6 ran into, asked between turns: closed, 31; none as posted and after one step; A, which is rule 0, after the
+-- second, and B after the fourth; none once it is ready; closed again, 31. There is no seat 8, 30.
+unfoldable pub ranInto : List (List ℕ)
+ranInto = answeredAlong
+    (asks 6 (Read RanInto) ∷ asks 6 Enter ∷ asks 6 (Read RanInto) ∷ turns 1 ∷ asks 6 (Read RanInto)
+    ∷ turns 1 ∷ asks 6 (Read RanInto) ∷ turns 2 ∷ asks 6 (Read RanInto) ∷ turns 35 ∷ asks 6 (Read RanInto)
+    ∷ asks 6 Leave ∷ asks 6 (Read RanInto) ∷ asks 8 (Read RanInto) ∷ []) (after [] .desk)
+
+unfoldable pub ranIntoExpected : List (List ℕ)
+ranIntoExpected =
+    (31 ∷ 0 ∷ []) ∷ (0 ∷ 0 ∷ []) ∷ (0 ∷ 255 ∷ []) ∷ (0 ∷ 0 ∷ []) ∷ (0 ∷ 255 ∷ [])
+    ∷ (0 ∷ 0 ∷ []) ∷ (0 ∷ 0 ∷ []) ∷ (0 ∷ 0 ∷ []) ∷ (0 ∷ 1 ∷ []) ∷ (0 ∷ 0 ∷ []) ∷ (0 ∷ 255 ∷ [])
+    ∷ (0 ∷ 0 ∷ []) ∷ (31 ∷ 0 ∷ []) ∷ (30 ∷ 0 ∷ []) ∷ []
+
 -- Example 1 of document 002 at seat 5: it enters, assigns x1 = 1, then x2 = 4, in 67, 56 and 39 turns. Each part starts from the
 -- ready seat that the one before leaves; what the board holds plays no part in it, so that the empty one serves.
 unfoldable pub readySeat : List ℕ → List ℕ → List ℕ → Seat
@@ -105,6 +130,7 @@ readySeat choices masks alternatives = record {
   masks = masks ++ replicate 13 0;
   trial = nothing16;
   alternatives = alternatives ++ replicate 13 0;
+  broken = 255;
 }
 
 -- the record of seat 5, such as it was, after some calls
