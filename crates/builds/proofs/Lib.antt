@@ -16,6 +16,7 @@ pub mod FaultMet
 pub mod Words
 pub mod Remarks
 pub mod FirstBroken
+pub mod RuleCount
 pub mod RulesByFeature
 pub mod Options
 pub mod Padded

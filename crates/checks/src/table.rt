@@ -36,6 +36,8 @@ const ALTERNATIVES: [u8; 4] = [31, 33, 34, 38];
 
 const EXAMPLE: [u8; 5] = [31, 33, 34, 35, 37];
 
+const RAN_INTO: [u8; 1] = [31];
+
 // 1 and 10 to 18: what open checks.
 pub fn open_number(board_length: usize, sizes: &[u8], rules: &[u16]) -> u8
     ensures { λ r. ⌜ ((board : List ℕ) → length board ≡ «board_length»
@@ -97,6 +99,7 @@ fn asked(asking: Asking, seat: Seat, sizes: &[u8]) -> u8
             Reading::Options { feature } => walked(&OPTIONS, seat, sizes, feature, 0),
             Reading::Alternatives { feature } => walked(&ALTERNATIVES, seat, sizes, feature, 0),
             Reading::Example { feature, option } => walked(&EXAMPLE, seat, sizes, feature, option),
+            Reading::RanInto => walked(&RAN_INTO, seat, sizes, 0, 0),
         },
     }
 }

@@ -3,13 +3,15 @@ use search::Place;
 use search::Seat;
 use search::State;
 ghost use mathlib.Core.Path.{_≡_};
-ghost use mathlib.Core.Bool.{_&&_};
+ghost use mathlib.Core.Bool.{true, _&&_, _||_};
 ghost use Prim.Native.Nat.{_^_, _<_, _≤_};
-ghost use lib.Dec.{ltb};
+ghost use lib.Dec.{ltb, eqb};
 ghost use lib.ListN.{length, getD};
-ghost use Rattle.builds.specs.Catalogue.{catalogueOf};
+ghost use Rattle.builds.specs.Catalogue.{catalogueOf, rulesRead};
 ghost use Rattle.builds.specs.Fault.{faultOf, sizesFault};
 ghost use Rattle.builds.specs.Lists.{everyBelow};
+ghost use Rattle.builds.specs.inner.Starts.{wholeRules};
+ghost use Rattle.search.specs.Look.{isAtWork};
 ghost use Rattle.search.specs.RecordFits.{choiceFits, maskFits, replaceable, alternativesFit, emptyAt};
 ghost use Rattle.search.specs.RecordFits.{placeFits, seatFits, entryFits};
 ghost use Rattle.fit.specs.inner.Trial.{restFits, placedFits};
@@ -25,6 +27,9 @@ pub fn seat_fits(seat: Seat, sizes: &[u8], rules: &[u16]) -> bool
     let trial = seat.trial;
     let alternatives = seat.alternatives;
     let state = seat.state;
+    if !broken_fits(state, seat.broken, rules) {
+        return false;
+    }
     match state {
         State::Closed => {
             if !all_empty(&choices, &masks) {
@@ -40,16 +45,46 @@ pub fn seat_fits(seat: Seat, sizes: &[u8], rules: &[u16]) -> bool
             if !place_fits(place, sizes, rules) {
                 return false;
             }
-            open_fits(
-                &choices,
-                &masks,
-                &alternatives,
-                &trial,
-                place.depth as usize,
-                sizes,
-            )
+            let depth = place.depth as usize;
+            open_fits(&choices, &masks, &alternatives, &trial, depth, sizes)
         }
     }
+}
+
+// The last rule broken is 255, as most often, or at work the number of a rule.
+fn broken_fits(state: State, broken: u8, rules: &[u16]) -> bool
+    requires { ⌜ wholeRules 64 (now rules) ≡ true ⌝ }
+    ensures { λ r. ⌜ r ≡ (eqb broken 255
+        || (isAtWork state && ltb broken (length (rulesRead 64 (now (rules .entry)))))) ⌝ }
+{
+    if broken == 255 {
+        return true;
+    }
+    match state {
+        State::Closed => false,
+        State::Ready => false,
+        State::AtWork(_) => has_rule(rules, broken),
+    }
+}
+
+// Whether there is a rule of this number: the walk passes so many rules, and another one begins.
+fn has_rule(rules: &[u16], number: u8) -> bool
+    requires { ⌜ wholeRules 64 (now rules) ≡ true ⌝ }
+    ensures { λ r. ⌜ r ≡ ltb number (length (rulesRead 64 (now (rules .entry)))) ⌝ }
+{
+    let mut left = number;
+    let mut place = 0;
+    while place < rules.len() {
+        if left == 0 {
+            return true;
+        }
+        let rest = &rules[place..];
+        let k = wide(rest[0]) as usize;
+        let m = wide(rest[1]) as usize;
+        place += 2 + k + k * m;
+        left -= 1;
+    }
+    false
 }
 
 // What is asked of the choices, masks, alternatives and trial of an open seat.

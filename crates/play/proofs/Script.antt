@@ -14,7 +14,7 @@ use Rattle.runs.specs.Perform.{perform}
 use Rattle.runs.specs.Run.{afterCalls}
 use Rattle.play.specs.Script.{askings, callMeant, callsMeant}
 
-pub other-kind : (kind w i a : ℕ) → 7 ≤ kind → callMeant kind w i a ≡ turns w
+pub other-kind : (kind w i a : ℕ) → 8 ≤ kind → callMeant kind w i a ≡ turns w
 other-kind kind w i a more = List·getD-eq-default (askings w i a) (turns w) more
 
 -- the call at the front of a list of numbers

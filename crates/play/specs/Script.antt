@@ -4,13 +4,13 @@ use Prim.Native.Nat.{ℕ}
 use mathlib.Core.List.{List, [], _∷_}
 use lib.ListN.{getD}
 use Rattle.runs.specs.declared.Asking.the-variants.{Enter, Leave, Choose, Relax, Read}
-use Rattle.runs.specs.declared.Reading.the-variants.{Options, Alternatives, Example}
+use Rattle.runs.specs.declared.Reading.the-variants.{Options, Alternatives, Example, RanInto}
 use Rattle.runs.specs.Call.{Call, asks, turns}
 
--- what numbers 0 to 6 say, in their order
+-- what numbers 0 to 7 say, in their order
 abbrev pub askings : ℕ → ℕ → ℕ → List Call
 askings c i a = asks c Enter ∷ asks c Leave ∷ asks c (Choose i a) ∷ asks c (Relax i) ∷ asks c (Read (Options i))
-    ∷ asks c (Read (Example i a)) ∷ asks c (Read (Alternatives i)) ∷ []
+    ∷ asks c (Read (Example i a)) ∷ asks c (Read (Alternatives i)) ∷ asks c (Read RanInto) ∷ []
 
 -- any other number says turns
 abbrev pub callMeant : ℕ → ℕ → ℕ → ℕ → Call

@@ -69,6 +69,10 @@ fn one_call(
             desk::alternatives(desk, board, sizes, rules, c, i);
             desk
         }
+        7 => {
+            desk::ran_into(desk, board, sizes, rules, c);
+            desk
+        }
         _ => desk::turns(desk, board, sizes, rules, who).desk,
     }
 }

@@ -18,13 +18,14 @@ use mathlib.Core.Path.{_≡_, refl}
 use mathlib.Core.List.{List}
 use Rattle.runs.specs.declared.Desk.{Desk}
 use Rattle.runs.specs.declared.Asking.the-variants.{Read}
-use Rattle.runs.specs.declared.Reading.the-variants.{Options, Alternatives, Example}
+use Rattle.runs.specs.declared.Reading.the-variants.{Options, Alternatives, Example, RanInto}
 use Rattle.runs.specs.Room.{roomOf}
 use Rattle.runs.specs.Call.{Call, asks}
-use Rattle.runs.specs.Answers.{ReadsAs, BytesAre, BeginsAt, NumberIs}
+use Rattle.runs.specs.Answers.{ReadsAs, RanAs, BytesAre, BeginsAt, NumberIs}
 use Rattle.runs.specs.Perform.{Outcome, performed}
 use Rattle.reading.proofs.options as options
 use Rattle.reading.proofs.alternatives as alternatives
+use Rattle.reading.proofs.ran_into as ran_into
 use Rattle.reading.proofs.example as example
 use Rattle.reading.proofs.example_number as example_number
 
@@ -59,6 +60,11 @@ module _ {M : Type 1} (𝓤 : URA M) (H : Heap 𝓤) (A : Atoms 𝓤) where
         let c = numbers handed .0 in let i = numbers handed .1 .0 in
         ⌜ ReadsAs (outcome handed (asks c (Read (Alternatives i)))) (roomOf (handed .0) (now (handed .1 .0))) answer ⌝)
     alternatives-contract = refl
+
+    pub ran-into-contract : ran_into.spec 𝓤 H A mem run ≡ Always ran_into.ended (λ κs handed answer left.
+        let c = numbers handed .0 in
+        ⌜ RanAs (outcome handed (asks c (Read RanInto))) (roomOf (handed .0) (now (handed .1 .0))) answer ⌝)
+    ran-into-contract = refl
 
     pub example-contract : example.spec 𝓤 H A mem run ≡ Always example.ended (λ κs handed answer left.
         let c = numbers handed .0 in let i = numbers handed .1 .0 in let a = numbers handed .1 .1 .0 in

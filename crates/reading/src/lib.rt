@@ -1,13 +1,14 @@
-// The calls that read a ready seat.
+// The calls that read a seat: the rule that its search ran into of any open one, all else of a ready one.
 use runs::Asking;
 use runs::Desk;
 use runs::Left;
+use runs::Ran;
 use runs::Reading;
 ghost use mathlib.Core.Path.{_≡_};
 ghost use Rattle.runs.specs.declared.Asking.the-variants.{Read};
-ghost use Rattle.runs.specs.declared.Reading.the-variants.{Options, Alternatives, Example};
+ghost use Rattle.runs.specs.declared.Reading.the-variants.{Options, Alternatives, Example, RanInto};
 ghost use Rattle.runs.specs.Call.{asks, refused};
-ghost use Rattle.runs.specs.Answers.{leftAnswer, ReadsAs, BytesAre, BeginsAt, NumberIs};
+ghost use Rattle.runs.specs.Answers.{leftAnswer, ReadsAs, RanAs, BytesAre, BeginsAt, NumberIs};
 ghost use Rattle.runs.specs.Perform.{maskAnswer, performed};
 ghost use Rattle.runs.specs.Room.{roomOf};
 
@@ -66,6 +67,25 @@ fn counted(mask: u16) -> Left
         number: 0,
         mask,
         count: u16::count_ones(mask),
+    }
+}
+
+// The rule that the search of a seat, at work or ready, last ran into: the last one broken in this job; 255 for none.
+pub fn ran_into(desk: Desk, board: &[u8], sizes: &[u8], rules: &[u16], c: usize) -> Ran
+    ensures { λ r. ⌜ RanAs
+        (performed (now (sizes .entry)) (now (rules .entry)) desk (now (board .entry)) (asks c (Read RanInto)))
+        (roomOf desk (now (board .entry))) r ⌝ }
+{
+    let asking = Asking::Read(Reading::RanInto);
+    let number = checks::number(asking, desk, board.len(), sizes, rules, c);
+    if number != 0 {
+        return Ran { number, rule: 0 };
+    }
+    let seats = desk.seats;
+    let seat = seats[c];
+    Ran {
+        number: 0,
+        rule: seat.broken,
     }
 }
 

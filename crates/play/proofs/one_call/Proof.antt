@@ -35,6 +35,9 @@ example-number-requires c κs = search needs
 alternatives-requires : tie.Need-alternatives-requires
 alternatives-requires c κs = search needs
 
+ran-into-requires : tie.Need-ran-into-requires
+ran-into-requires c κs = search needs
+
 turns-requires : tie.Need-turns-requires
 turns-requires c κs = search needs
 
@@ -91,23 +94,29 @@ returns-7 c = rw (c .before .before .match .keys7) (ap room-of (c .alternatives 
 same-length-8 : tie.Need-same-length-8
 same-length-8 c = search needs
 
+returns-8 : tie.Need-returns-8
+returns-8 c = rw (c .before .before .match .keys8) (ap room-of (c .ran-into .ensures))
+
+same-length-9 : tie.Need-same-length-9
+same-length-9 c = search needs
+
 -- in two parts, since `omega` takes six cases at a time
 from-six : (kind : ℕ) → (kind ≡ 0 → ⊥) → (kind ≡ 1 → ⊥) → (kind ≡ 2 → ⊥) → (kind ≡ 3 → ⊥) → (kind ≡ 4 → ⊥) → (kind ≡ 5 → ⊥) → 6 ≤ kind
 from-six kind not-0 not-1 not-2 not-3 not-4 not-5 = omega arith
 
-and-seven : (kind : ℕ) → 6 ≤ kind → (kind ≡ 6 → ⊥) → 7 ≤ kind
-and-seven kind six not-6 = omega arith
+and-two : (kind : ℕ) → 6 ≤ kind → (kind ≡ 6 → ⊥) → (kind ≡ 7 → ⊥) → 8 ≤ kind
+and-two kind six not-6 not-7 = omega arith
 
--- a number that none of the seven arms names
-from-seven : (p : tie.At-match-rest) → 7 ≤ p .before .before .before .before .args .kind
-from-seven p =
+-- a number that none of the eight arms names
+from-eight : (p : tie.At-match-rest) → 8 ≤ p .before .before .before .before .args .kind
+from-eight p =
     let rest = p .match .rest in
-    let low = rest .0 .0 .0 in
-    and-seven _ (from-six _ (low .0 .0 .0 .1) (low .0 .0 .1) (low .0 .1) (low .1) (rest .0 .0 .1) (rest .0 .1)) (rest .1)
+    let low = rest .0 .0 .0 .0 in
+    and-two _ (from-six _ (low .0 .0 .0 .1) (low .0 .0 .1) (low .0 .1) (low .1) (rest .0 .0 .0 .1) (rest .0 .0 .1)) (rest .0 .1) (rest .1)
 
-returns-8 : tie.Need-returns-8
-returns-8 c =
-    rw (other-kind _ _ _ _ (from-seven (c .before .before .before .before .before)))
+returns-9 : tie.Need-returns-9
+returns-9 c =
+    rw (other-kind _ _ _ _ (from-eight (c .before .before .before .before .before)))
     (ap room-of (c .before .before .before .turns .ensures))
 
 pub one-call-spec : {M : Type 1} → statement M
@@ -121,6 +130,7 @@ one-call-spec =
     options-requires
     example-number-requires
     alternatives-requires
+    ran-into-requires
     turns-requires
     same-length
     returns
@@ -137,4 +147,6 @@ one-call-spec =
     same-length-7
     returns-7
     same-length-8
-    returns-8)
+    returns-8
+    same-length-9
+    returns-9)

@@ -69,6 +69,15 @@ slice-aggregate-walked-7 c = search needs
 walked-requires-7 : tie.Need-walked-requires-7
 walked-requires-7 c κs = search needs
 
+enum-told-3 : tie.Need-enum-told-3
+enum-told-3 c = search needs
+
+slice-aggregate-walked-8 : tie.Need-slice-aggregate-walked-8
+slice-aggregate-walked-8 c = search needs
+
+walked-requires-8 : tie.Need-walked-requires-8
+walked-requires-8 c κs = search needs
+
 returns : tie.Need-returns
 returns c = rw (c .before .before .enum-told .given .1) (c .walked .ensures)
 
@@ -96,6 +105,11 @@ returns-7 c =
     let read = c .before .before .before in
     rw (read .before .before .before .asking3 .given .1, read .reading3 .given .1) (c .walked7 .ensures)
 
+returns-8 : tie.Need-returns-8
+returns-8 c =
+    let read = c .before .before in
+    rw (read .before .before .before .asking3 .given .1, read .enum-told3 .given .1) (c .walked8 .ensures)
+
 pub asked-spec : {M : Type 1} → statement M
 asked-spec =
     tie.close
@@ -122,10 +136,14 @@ asked-spec =
     enum-known-reading-3
     slice-aggregate-walked-7
     walked-requires-7
+    enum-told-3
+    slice-aggregate-walked-8
+    walked-requires-8
     returns
     returns-2
     returns-3
     returns-4
     returns-5
     returns-6
-    returns-7)
+    returns-7
+    returns-8)
