@@ -16,12 +16,13 @@ use mathlib.Core.List.{List}
 use lib.ListN.{take, drop}
 use Rattle.builds.specs.Catalogue.{catalogueOf}
 use Rattle.runs.specs.declared.Asking.the-variants.{Enter, Leave, Choose, Relax, Read}
-use Rattle.runs.specs.declared.Reading.the-variants.{Options, Alternatives, Example}
+use Rattle.runs.specs.declared.Reading.the-variants.{Options, Alternatives, Example, RanInto}
 use Rattle.runs.specs.Call.{Call, asks, turns}
 use Rattle.runs.specs.Perform.{Outcome}
 use Rattle.reading.proofs.Contracts.{Always}
 use Rattle.host.specs.declared.records.HostDesk.{HostDesk}
-use Rattle.host.specs.Door.{HostOutcome, inside, throughDoor, openedDoor, hostChangedOutcome, hostLeftAnswer, hostTurnedOutcome, exampleStands}
+use Rattle.host.specs.Door.{HostOutcome, inside, throughDoor, openedDoor, hostChangedOutcome, hostLeftAnswer, hostRanAnswer}
+use Rattle.host.specs.Door.{hostTurnedOutcome, exampleStands}
 use Rattle.host.proofs.nethazel_open_layout_2 as opens
 use Rattle.host.proofs.nethazel_enter_layout_2 as enter
 use Rattle.host.proofs.nethazel_leave_layout_2 as leave
@@ -30,6 +31,7 @@ use Rattle.host.proofs.nethazel_relax_layout_2 as relax
 use Rattle.host.proofs.nethazel_options_layout_2 as options
 use Rattle.host.proofs.nethazel_alternatives_layout_2 as alternatives
 use Rattle.host.proofs.nethazel_example_layout_2 as example
+use Rattle.host.proofs.nethazel_ran_into_layout_2 as ran-into
 use Rattle.host.proofs.nethazel_turns_layout_2 as turning
 
 -- what every call but open is handed: the host's desk, board, sizes, rules, then its own numbers
@@ -88,6 +90,10 @@ module _ {M : Type 1} (𝓤 : URA M) (H : Heap 𝓤) (A : Atoms 𝓤) (mem : Mem
       ⌜ answer ≡ exampleStands (made .answer .number) c i a ⌝
       ∗ ⌜ take (answer .length) (drop (answer .from) (now (handed .1 .0))) ≡ made .answer .bytes ⌝)
   example-contract = refl
+
+  pub ran-into-contract : ran-into.spec 𝓤 H A mem run ≡ Always 𝓤 H A ran-into.ended (λ κs handed answer left.
+      ⌜ hostRanAnswer answer ≡ read handed (asks (numbers handed .0) (Read RanInto)) .answer ⌝)
+  ran-into-contract = refl
 
   pub turns-contract : turning.spec 𝓤 H A mem run ≡ Always 𝓤 H A turning.ended (λ κs handed answer left.
       ⌜ hostTurnedOutcome answer (now (left .1 .0)) ≡ outcome handed (turns (numbers handed .0)) ⌝)

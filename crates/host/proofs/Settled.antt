@@ -6,22 +6,28 @@ use mathlib.Core.List.{List}
 use Rattle.builds.specs.Catalogue.{Catalogue}
 use Rattle.runs.specs.declared.Asking.{Asking}
 use Rattle.runs.specs.declared.Asking.the-variants.{Read}
-use Rattle.runs.specs.declared.Reading.the-variants.{Options, Alternatives, Example}
+use Rattle.runs.specs.declared.Reading.the-variants.{Options, Alternatives, Example, RanInto}
 use Rattle.runs.specs.Call.{Answer, asks, turns}
 use Rattle.runs.proofs.Settled.{Settled, SettledWithBoard}
 use Rattle.host.specs.declared.records.HostDesk.{HostDesk}
 use Rattle.host.specs.declared.records.HostChanged.{HostChanged}
 use Rattle.host.specs.declared.records.HostLeft.{HostLeft}
+use Rattle.host.specs.declared.records.HostRan.{HostRan}
 use Rattle.host.specs.declared.records.HostExample.{HostExample}
 use Rattle.host.specs.declared.records.HostTurned.{HostTurned}
-use Rattle.host.specs.Door.{HostOutcome, inside, throughDoor, openedDoor, hostChangedOutcome, hostLeftAnswer, hostTurnedOutcome, exampleStands}
+use Rattle.host.specs.Door.{HostOutcome, inside, throughDoor, openedDoor, hostChangedOutcome, hostLeftAnswer, hostRanAnswer}
+use Rattle.host.specs.Door.{hostTurnedOutcome, exampleStands}
 
--- what the contracts of open, enter, leave, choose and relax say, then those of options and alternatives, then that of turns
+-- what the contracts of open, enter, leave, choose and relax say, then those of options and alternatives, of
+-- ran_into, and of turns
 abbrev pub ChangesTo : HostOutcome → HostChanged → List ℕ → Type 0
 ChangesTo outcome r board = hostChangedOutcome r board ≡ outcome
 
 abbrev pub ReadsAs : Answer → HostLeft → Type 0
 ReadsAs answer r = hostLeftAnswer r ≡ answer
+
+abbrev pub RanAs : Answer → HostRan → Type 0
+RanAs answer r = hostRanAnswer r ≡ answer
 
 abbrev pub TurnsTo : HostOutcome → HostTurned → List ℕ → Type 0
 TurnsTo outcome r board = hostTurnedOutcome r board ≡ outcome
@@ -31,6 +37,9 @@ changedIn outcome = record { number = outcome .answer .number; desk = outcome .d
 
 abbrev leftIn : Answer → HostLeft
 leftIn answer = record { number = answer .number; mask = answer .mask; count = answer .count }
+
+abbrev ranIn : Answer → HostRan
+ranIn answer = record { number = answer .number; rule = answer .rule }
 
 abbrev turnedIn : HostOutcome → HostTurned
 turnedIn outcome = record {
@@ -48,6 +57,9 @@ one-change outcome r₁ r₂ b₁ b₂ e₁ e₂ = let same = e₁ ∙ sym e₂ 
 
 one-reading : (answer : Answer) → Settled (ReadsAs answer)
 one-reading answer r₁ r₂ e₁ e₂ = ap leftIn (e₁ ∙ sym e₂)
+
+one-rule : (answer : Answer) → Settled (RanAs answer)
+one-rule answer r₁ r₂ e₁ e₂ = ap ranIn (e₁ ∙ sym e₂)
 
 one-place : (place : HostExample) → Settled (λ (r : HostExample). r ≡ place)
 one-place place r₁ r₂ e₁ e₂ = e₁ ∙ sym e₂
@@ -71,6 +83,9 @@ module _ (catalogue : Catalogue) (given : HostDesk) (board : List ℕ) where
 
     pub alternatives-settled : (i : ℕ) → Settled (ReadsAs (inside catalogue (asks c (Read (Alternatives i))) given board .answer))
     alternatives-settled i = one-reading (inside catalogue (asks c (Read (Alternatives i))) given board .answer)
+
+    pub ran-into-settled : Settled (RanAs (inside catalogue (asks c (Read RanInto)) given board .answer))
+    ran-into-settled = one-rule (inside catalogue (asks c (Read RanInto)) given board .answer)
 
     module _ (i a : ℕ) where
       abbrev pub exampleNumber : ℕ

@@ -4,7 +4,7 @@ use Prim.Native.Nat.{ℕ}
 use mathlib.Core.Path.{_≡_, refl, ap}
 use mathlib.Core.List.{List, [], _∷_}
 use Rattle.runs.specs.declared.Asking.the-variants.{Enter, Leave, Choose, Relax, Read}
-use Rattle.runs.specs.declared.Reading.the-variants.{Options, Alternatives, Example}
+use Rattle.runs.specs.declared.Reading.the-variants.{Options, Alternatives, Example, RanInto}
 use Rattle.runs.specs.Call.{Call, asks, turns}
 use Rattle.play.specs.Script.{callsMeant}
 
@@ -17,7 +17,8 @@ scriptOf (asks c (Relax i) ∷ calls) = 3 ∷ c ∷ i ∷ 0 ∷ scriptOf calls
 scriptOf (asks c (Read (Options i)) ∷ calls) = 4 ∷ c ∷ i ∷ 0 ∷ scriptOf calls
 scriptOf (asks c (Read (Example i a)) ∷ calls) = 5 ∷ c ∷ i ∷ a ∷ scriptOf calls
 scriptOf (asks c (Read (Alternatives i)) ∷ calls) = 6 ∷ c ∷ i ∷ 0 ∷ scriptOf calls
-scriptOf (turns w ∷ calls) = 7 ∷ w ∷ 0 ∷ 0 ∷ scriptOf calls
+scriptOf (asks c (Read RanInto) ∷ calls) = 7 ∷ c ∷ 0 ∷ 0 ∷ scriptOf calls
+scriptOf (turns w ∷ calls) = 8 ∷ w ∷ 0 ∷ 0 ∷ scriptOf calls
 
 pub every-run : (calls : List Call) → callsMeant (scriptOf calls) ≡ calls
 unfolding callsMeant scriptOf
@@ -29,4 +30,5 @@ every-run (asks c (Relax i) ∷ calls) = ap (_∷_ (asks c (Relax i))) (every-ru
 every-run (asks c (Read (Options i)) ∷ calls) = ap (_∷_ (asks c (Read (Options i)))) (every-run calls)
 every-run (asks c (Read (Example i a)) ∷ calls) = ap (_∷_ (asks c (Read (Example i a)))) (every-run calls)
 every-run (asks c (Read (Alternatives i)) ∷ calls) = ap (_∷_ (asks c (Read (Alternatives i)))) (every-run calls)
+every-run (asks c (Read RanInto) ∷ calls) = ap (_∷_ (asks c (Read RanInto))) (every-run calls)
 every-run (turns w ∷ calls) = ap (_∷_ (turns w)) (every-run calls)
