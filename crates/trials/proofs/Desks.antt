@@ -44,6 +44,7 @@ marked = record {
   masks = 1 ∷ replicate 15 0;
   trial = replicate 16 255;
   alternatives = replicate 16 0;
+  broken = 255;
 }
 
 -- ready, with a choice and no bit, neither of an option left nor of an alternative
@@ -54,6 +55,7 @@ settled = record {
   masks = replicate 16 0;
   trial = replicate 16 255;
   alternatives = replicate 16 0;
+  broken = 255;
 }
 
 -- ready on the trolley, with a choice for feature 2, the masks of a job without it, and the other option as alternative
@@ -64,4 +66,5 @@ stale = record {
   masks = 7 ∷ 7 ∷ 3 ∷ replicate 13 0;
   trial = replicate 16 255;
   alternatives = 0 ∷ 0 ∷ 2 ∷ replicate 13 0;
+  broken = 255;
 }

@@ -59,7 +59,7 @@ module _ (openings : EveryOpening) (demand : Refusals) (catalogue : Catalogue) (
   none-before r l (Sentence.seat-above-7 h) = omega (arith, l, at-most-18)
   none-before r l (Sentence.seat-closed other s) = omega (arith, l, at-most-18)
   none-before r l (Sentence.seat-open s) = omega (arith, l, at-most-18)
-  none-before r l (Sentence.seat-at-work not-enter not-leave s) = omega (arith, l, at-most-18)
+  none-before r l (Sentence.seat-at-work not-enter not-leave not-ran-into s) = omega (arith, l, at-most-18)
   none-before r l (Sentence.no-such-feature named h) = omega (arith, l, at-most-18)
   none-before r l (Sentence.no-such-option named h) = omega (arith, l, at-most-18)
   none-before r l (Sentence.has-a-choice s) = omega (arith, l, at-most-18)

@@ -4,6 +4,7 @@
 pub mod Runs
 pub mod Shown
 pub mod Waits
+pub mod RanInto
 pub mod Dropped
 pub mod Replaced
 pub mod Stands

@@ -1,11 +1,13 @@
--- Number 20, clause by clause: desks written by hand that don't fit the trolley, each with one thing wrong.
+-- Number 20, clause by clause: desks written by hand that don't fit the trolley, each with one thing wrong; and, for the last
+-- rule broken, catalogues of no rule and of one.
 use Prim.Native.Nat.{ℕ, _<_}
 use mathlib.Core.Path.{_≡_, refl, sym, ap, _∙_}
-use mathlib.Core.Bool.{false≢true}
+use mathlib.Core.Bool.{false, false≢true}
 use mathlib.Core.List.{List, _∷_}
 use native.Mathlib.Omega.{arith}
 use lib.ListN.{length, replicate}
 use lib.Dec.{lit<, lit≤}
+use Rattle.builds.specs.Catalogue.{Catalogue}
 use Rattle.builds.specs.Fault.{faultOf}
 use Rattle.builds.proofs.FaultMet.{fault-met}
 use Rattle.search.specs.declared.Seat.{Seat}
@@ -15,7 +17,7 @@ use Rattle.search.specs.declared.State.the-variants.{Closed, Ready, AtWork}
 use Rattle.search.specs.Clinic.{closedSeat, nothing16, noneLeft}
 use Rattle.search.specs.Look.{isAtWork}
 use Rattle.search.specs.Misfit.{Misfit}
-use Rattle.search.specs.Trolley.{trolley}
+use Rattle.search.specs.Trolley.{trolley, single}
 use Rattle.runs.specs.Room.{Room}
 use Rattle.runs.specs.Call.{Call, turns}
 use Rattle.runs.specs.Perform.{perform}
@@ -25,45 +27,59 @@ use Rattle.promises.specs.Refusals.{Refusals}
 use Rattle.promises.proofs.Refusals.{refusals as proved-refusals}
 use Rattle.trials.proofs.Desks.{room-of}
 use Rattle.trials.proofs.Places.{at-place}
+use Rattle.trials.proofs.Openings.{one-rule}
 
 -- board and catalogue are as they should be
 no-fault : faultOf trolley ≡ 0
 unfolding computing
 no-fault = refl
 
-not-to-open : {board : List ℕ} {r : ℕ} → length board ≡ 32768 → OpenSentence trolley board r → ⊥
-not-to-open long (OpenSentence.board-length short) = short long
-not-to-open long (OpenSentence.fault {r} met) = let zero = sym (fault-met trolley _ .0 met) ∙ no-fault in omega (arith, zero)
+no-fault-in-none : faultOf single ≡ 0
+unfolding computing
+no-fault-in-none = refl
 
-earlier : {room : Room} {call : Call} → length (room .board) ≡ 32768 → (r : ℕ) → r < 20 → Sentence trolley room call r → ⊥
-earlier long r l (Sentence.to-open s) = not-to-open long s
-earlier long r l (Sentence.desk-misfit m) = omega arith
-earlier long r l (Sentence.seat-above-7 h) = omega arith
-earlier long r l (Sentence.seat-closed other s) = omega arith
-earlier long r l (Sentence.seat-open s) = omega arith
-earlier long r l (Sentence.seat-at-work not-enter not-leave s) = omega arith
-earlier long r l (Sentence.no-such-feature named h) = omega arith
-earlier long r l (Sentence.no-such-option named h) = omega arith
-earlier long r l (Sentence.has-a-choice s) = omega arith
-earlier long r l (Sentence.not-left named s) = omega arith
-earlier long r l (Sentence.no-choice named s) = omega arith
+no-fault-in-one : faultOf one-rule ≡ 0
+unfolding computing one-rule
+no-fault-in-one = refl
 
--- a desk that doesn't fit: 20 for every call
-gives-20 : Refusals → (seat : Seat) (next : ℕ) → DeskMisfit trolley (room-of seat closedSeat next .desk)
-    → (call : Call) → perform trolley call (room-of seat closedSeat next) .answer .number ≡ 20
-unfolding room-of
-gives-20 demand seat next misfit call =
-    demand .by-the-paper trolley call (room-of seat closedSeat next) 20 .1
-    (FirstOf.first-sentence (Sentence.desk-misfit misfit) (earlier refl))
+module _ (catalogue : Catalogue) (faultless : faultOf catalogue ≡ 0) where
+  not-to-open : {board : List ℕ} {r : ℕ} → length board ≡ 32768 → OpenSentence catalogue board r → ⊥
+  not-to-open long (OpenSentence.board-length short) = short long
+  not-to-open long (OpenSentence.fault {r} met) = let zero = sym (fault-met catalogue _ .0 met) ∙ faultless in omega (arith, zero)
+
+  earlier : {room : Room} {call : Call} → length (room .board) ≡ 32768 → (r : ℕ) → r < 20 → Sentence catalogue room call r → ⊥
+  earlier long r l (Sentence.to-open s) = not-to-open long s
+  earlier long r l (Sentence.desk-misfit m) = omega arith
+  earlier long r l (Sentence.seat-above-7 h) = omega arith
+  earlier long r l (Sentence.seat-closed other s) = omega arith
+  earlier long r l (Sentence.seat-open s) = omega arith
+  earlier long r l (Sentence.seat-at-work not-enter not-leave not-ran-into s) = omega arith
+  earlier long r l (Sentence.no-such-feature named h) = omega arith
+  earlier long r l (Sentence.no-such-option named h) = omega arith
+  earlier long r l (Sentence.has-a-choice s) = omega arith
+  earlier long r l (Sentence.not-left named s) = omega arith
+  earlier long r l (Sentence.no-choice named s) = omega arith
+
+  -- a desk that doesn't fit: 20 for every call
+  gives-20 : Refusals → (seat : Seat) (next : ℕ) → DeskMisfit catalogue (room-of seat closedSeat next .desk)
+      → (call : Call) → perform catalogue call (room-of seat closedSeat next) .answer .number ≡ 20
+  unfolding room-of
+  gives-20 demand seat next misfit call =
+      demand .by-the-paper catalogue call (room-of seat closedSeat next) 20 .1
+      (FirstOf.first-sentence (Sentence.desk-misfit misfit) (earlier refl))
+
+  seat-20 : Refusals → (seat : Seat) → Misfit catalogue seat
+      → (call : Call) → perform catalogue call (room-of seat closedSeat 0) .answer .number ≡ 20
+  unfolding room-of
+  seat-20 demand seat misfit = gives-20 demand seat 0 (DeskMisfit.a-seat 0 (lit< tt) misfit)
 
 misfit-20 : Refusals → (seat : Seat) → Misfit trolley seat
     → (call : Call) → perform trolley call (room-of seat closedSeat 0) .answer .number ≡ 20
-unfolding room-of
-misfit-20 demand seat misfit = gives-20 demand seat 0 (DeskMisfit.a-seat 0 (lit< tt) misfit)
+misfit-20 = seat-20 trolley no-fault
 
 abbrev seat-of : State → List ℕ → List ℕ → List ℕ → Seat
 seat-of state choices masks trial =
-    record { state = state; choices = choices; masks = masks; trial = trial; alternatives = noneLeft }
+    record { state = state; choices = choices; masks = masks; trial = trial; alternatives = noneLeft; broken = 255 }
 
 abbrev work : ℕ → ℕ → ℕ → ℕ → State
 work i a j v = AtWork (at-place i a j v)
@@ -71,7 +87,7 @@ work i a j v = AtWork (at-place i a j v)
 -- next is seat 8
 next-8 : Refusals → (call : Call) → perform trolley call (room-of closedSeat closedSeat 8) .answer .number ≡ 20
 unfolding room-of
-next-8 demand = gives-20 demand closedSeat 8 (DeskMisfit.next-above-7 (lit< tt))
+next-8 demand = gives-20 trolley no-fault demand closedSeat 8 (DeskMisfit.next-above-7 (lit< tt))
 
 -- option 2 of feature 2, which has two; a choice for feature 5, which isn't there
 abbrev choosy : Seat
@@ -108,7 +124,7 @@ bit-beyond = Misfit.mask-bit 3 0 (lit< tt) refl (λ (l : 3 < 3). absurd (omega (
 -- and in a closed seat
 abbrev replaced : State → List ℕ → List ℕ → Seat
 replaced state choices alternatives =
-    record { state = state; choices = choices; masks = noneLeft; trial = nothing16; alternatives = alternatives }
+    record { state = state; choices = choices; masks = noneLeft; trial = nothing16; alternatives = alternatives; broken = 255 }
 
 bad-alternative : Misfit trolley (replaced Ready (255 ∷ 255 ∷ 0 ∷ replicate 13 255) (0 ∷ 0 ∷ 4 ∷ replicate 13 0))
 unfolding trolley
@@ -150,6 +166,29 @@ closed-with-choice = Misfit.closed-choice 0 refl (lit< tt) (λ (e : _≡_ {A = �
 
 closed-with-bit : Misfit trolley (seat-of Closed nothing16 (1 ∷ replicate 15 0) nothing16)
 closed-with-bit = Misfit.closed-mask-bit 0 0 refl (lit< tt) refl
+
+-- The last rule broken, at work: where there is no rule, not 0; where there is one, neither 1 nor 254. Rule 0, which is there, in
+-- a seat that is not at work.
+abbrev ran-into : State → ℕ → Seat
+ran-into state rule =
+    record { state = state; choices = nothing16; masks = noneLeft; trial = nothing16; alternatives = noneLeft; broken = rule }
+
+no-rule-there : Misfit single (ran-into (work 0 0 0 0) 0)
+unfolding computing
+no-rule-there = Misfit.no-such-rule (λ (e : _≡_ {A = ℕ} 0 255). omega (arith, e)) (lit≤ tt)
+
+no-second-rule : Misfit one-rule (ran-into (work 0 0 0 0) 1)
+unfolding computing one-rule
+no-second-rule = Misfit.no-such-rule (λ (e : _≡_ {A = ℕ} 1 255). omega (arith, e)) (lit≤ tt)
+
+no-rule-254 : Misfit one-rule (ran-into (work 0 0 0 0) 254)
+unfolding computing one-rule
+no-rule-254 = Misfit.no-such-rule (λ (e : _≡_ {A = ℕ} 254 255). omega (arith, e)) (lit≤ tt)
+
+rule-at-rest : (state : State) → isAtWork state ≡ false → Misfit one-rule (ran-into state 0)
+rule-at-rest state rests =
+    Misfit.rule-not-at-work (λ (e : _≡_ {A = ℕ} 0 255). omega (arith, e))
+    (λ (p : Place) e. false≢true (sym rests ∙ ap isAtWork e))
 
 -- ---- and so, of turns; the last also as it changes nothing
 
@@ -195,3 +234,23 @@ pub closed-misfit : Gives20 (seat-of Closed (0 ∷ replicate 15 255) noneLeft no
     × Gives20 (seat-of Closed nothing16 (1 ∷ replicate 15 0) nothing16)
 closed-misfit =
     (misfit-20 proved-refusals _ closed-with-choice (turns 5), misfit-20 proved-refusals _ closed-with-bit (turns 5))
+
+-- both sides of the rule count, of 255 and of being at work: 20, or accepted
+abbrev OfRule : Catalogue → State → ℕ → ℕ → Type 0
+OfRule catalogue state rule number =
+    perform catalogue (turns 5) (room-of (ran-into state rule) closedSeat 0) .answer .number ≡ number
+
+pub rules-misfit : OfRule single (work 0 0 0 0) 0 20 × OfRule one-rule (work 0 0 0 0) 1 20
+    × OfRule one-rule (work 0 0 0 0) 254 20 × OfRule one-rule Closed 0 20 × OfRule one-rule Ready 0 20
+rules-misfit = (
+  seat-20 single no-fault-in-none proved-refusals _ no-rule-there (turns 5),
+  seat-20 one-rule no-fault-in-one proved-refusals _ no-second-rule (turns 5),
+  seat-20 one-rule no-fault-in-one proved-refusals _ no-rule-254 (turns 5),
+  seat-20 one-rule no-fault-in-one proved-refusals _ (rule-at-rest Closed refl) (turns 5),
+  seat-20 one-rule no-fault-in-one proved-refusals _ (rule-at-rest Ready refl) (turns 5),
+)
+
+pub rules-fit : OfRule single (work 0 0 0 0) 255 0 × OfRule one-rule (work 0 0 0 0) 0 0
+    × OfRule one-rule (work 0 0 0 0) 255 0 × OfRule one-rule Closed 255 0 × OfRule one-rule Ready 255 0
+unfolding room-of computing one-rule
+rules-fit = (refl, refl, refl, refl, refl)

@@ -14,7 +14,7 @@ use Rattle.search.specs.declared.State.the-variants.{Closed, AtWork}
 use Rattle.search.specs.Bits.{hasBit}
 use Rattle.runs.specs.declared.Asking.{Asking}
 use Rattle.runs.specs.declared.Asking.the-variants.{Enter, Leave, Choose, Relax, Read}
-use Rattle.runs.specs.declared.Reading.the-variants.{Options, Alternatives, Example}
+use Rattle.runs.specs.declared.Reading.the-variants.{Options, Alternatives, Example, RanInto}
 use Rattle.runs.specs.Room.{Room, seatAt}
 use Rattle.runs.specs.Call.{Call, asks, turns}
 use Rattle.runs.specs.Perform.{perform}
@@ -43,7 +43,7 @@ positive (Sentence.desk-misfit m) = omega arith
 positive (Sentence.seat-above-7 l) = omega arith
 positive (Sentence.seat-closed other s) = omega arith
 positive (Sentence.seat-open s) = omega arith
-positive (Sentence.seat-at-work not-enter not-leave s) = omega arith
+positive (Sentence.seat-at-work not-enter not-leave not-ran-into s) = omega arith
 positive (Sentence.no-such-feature named l) = omega arith
 positive (Sentence.no-such-option named l) = omega arith
 positive (Sentence.has-a-choice s) = omega arith
@@ -64,7 +64,7 @@ module _ (refusals : Refusals) (catalogue : Catalogue) (room : Room) (passes : p
   below-30 r l (Sentence.seat-above-7 h) = omega arith
   below-30 r l (Sentence.seat-closed other s) = omega arith
   below-30 r l (Sentence.seat-open s) = omega arith
-  below-30 r l (Sentence.seat-at-work not-enter not-leave s) = omega arith
+  below-30 r l (Sentence.seat-at-work not-enter not-leave not-ran-into s) = omega arith
   below-30 r l (Sentence.no-such-feature named h) = omega arith
   below-30 r l (Sentence.no-such-option named h) = omega arith
   below-30 r l (Sentence.has-a-choice s) = omega arith
@@ -89,7 +89,7 @@ module _ (refusals : Refusals) (catalogue : Catalogue) (room : Room) (passes : p
   pub at-33 : {c : ℕ} {asking : Asking} → Sentence catalogue room (asks c asking) 33
       → (p : Place) × (seatAt (room .desk) c .state ≡ AtWork p)
   at-33 (Sentence.to-open s) = absurd (nothing-there 33 (Sentence.to-open s))
-  at-33 (Sentence.seat-at-work {p = p} not-enter not-leave s) = (p, s)
+  at-33 (Sentence.seat-at-work {p = p} not-enter not-leave not-ran-into s) = (p, s)
 
   pub at-34 : {c : ℕ} {asking : Asking} → Sentence catalogue room (asks c asking) 34
       → (i : ℕ) × NamesFeature asking i × (length (catalogue .sizes) ≤ i)
@@ -147,6 +147,7 @@ namesOption (Relax i) = false
 namesOption (Read (Options i)) = false
 namesOption (Read (Alternatives i)) = false
 namesOption (Read (Example i a)) = true
+namesOption (Read RanInto) = false
 
 choice-names-none : {asking : Asking} {i : ℕ} → NamesChoice asking i → namesOption asking ≡ false
 choice-names-none NamesChoice.relax = refl

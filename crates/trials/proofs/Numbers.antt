@@ -22,7 +22,7 @@ use Rattle.runs.specs.Room.{Room, seatAt}
 use Rattle.runs.specs.Call.{asks, turns}
 use Rattle.runs.specs.Perform.{perform}
 use Rattle.runs.specs.PaperTable.{FirstOf, OpenSentence, NamesOption, NamesChoice, NamesFeature, Sentence}
-use Rattle.runs.proofs.AskedSentences.{isEnter, isLeave, not-enter, not-leave}
+use Rattle.runs.proofs.AskedSentences.{isEnter, isLeave, isRanInto, not-enter, not-leave, not-ran-into}
 use Rattle.promises.specs.Refusals.{Refusals}
 use Rattle.trials.proofs.NoEarlier.{also-not, below-30, at-30, at-31, at-32, at-33, at-34, at-35, at-36, at-37}
 use Rattle.trials.proofs.NoEarlier.{choose-names, choose-feature, example-names, example-feature, example-no-choose}
@@ -64,7 +64,7 @@ module _ (refusals : Refusals) (room : Room) (passes : perform single (turns 0) 
   nothing-against r is-enter closed (Sentence.seat-above-7 l) = to-31 {asking = Enter} 30 (lit< tt) (Sentence.seat-above-7 l)
   nothing-against r is-enter closed (Sentence.seat-closed other s) = other is-enter
   nothing-against r is-enter closed (Sentence.seat-open s) = s closed
-  nothing-against r is-enter closed (Sentence.seat-at-work other not-leave s) = other is-enter
+  nothing-against r is-enter closed (Sentence.seat-at-work other not-leave not-ran-into s) = other is-enter
   nothing-against r is-enter closed (Sentence.no-such-feature named l) = names-no-feature named is-enter
   nothing-against r is-enter closed (Sentence.no-such-option named l) =
       names-no-feature (NamesFeature.with-option named) is-enter
@@ -96,12 +96,12 @@ module _ (refusals : Refusals) (room : Room) (passes : perform single (turns 0) 
       also-not 32 (also-not 31 to-31 (λ s. entered (at-31 refusals single room passes s .1)))
       (λ s. not-enter other (at-32 refusals single room passes s .0))
 
-  pub gives-33 : (asking : Asking) (p : Place) → isEnter asking ≡ false → isLeave asking ≡ false
+  pub gives-33 : (asking : Asking) (p : Place) → isEnter asking ≡ false → isLeave asking ≡ false → isRanInto asking ≡ false
       → seatAt (room .desk) c .state ≡ AtWork p
       → perform single (asks c asking) room .answer .number ≡ 33
-  gives-33 asking p other₁ other₂ at-work =
+  gives-33 asking p other₁ other₂ other₃ at-work =
       refusals .by-the-paper single (asks c asking) room 33 .1
-      (FirstOf.first-sentence (Sentence.seat-at-work (not-enter other₁) (not-leave other₂) at-work)
+      (FirstOf.first-sentence (Sentence.seat-at-work (not-enter other₁) (not-leave other₂) (not-ran-into other₃) at-work)
       (to-33 other₁ (λ closed. false≢true (ap isClosed (sym at-work ∙ closed)))))
 
   -- and the other way: what is given 33 is asked of a seat at work

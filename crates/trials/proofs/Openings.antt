@@ -67,6 +67,7 @@ module _ (demand : EveryOpening) where
       masks = replicate 16 0;
       trial = replicate 16 255;
       alternatives = replicate 16 0;
+      broken = 255;
     });
     next = 0;
   }
@@ -105,6 +106,7 @@ pub seats-closed : opening trolley [] .room .desk ≡ record {
     masks = replicate 16 0;
     trial = replicate 16 255;
     alternatives = replicate 16 0;
+    broken = 255;
   });
   next = 0;
 }

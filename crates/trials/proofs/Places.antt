@@ -22,9 +22,15 @@ use Rattle.trials.proofs.Desks.{room-of, Sixteen, whole-room}
 abbrev pub at-place : ℕ → ℕ → ℕ → ℕ → Place
 at-place i a j v = record { feature = i; option = a; depth = j; next = v }
 
-abbrev pub searching : Place → List ℕ → List ℕ → Seat
-searching p choices trial =
-    record { state = AtWork p; choices = choices; masks = replicate 16 0; trial = trial; alternatives = replicate 16 0 }
+abbrev pub searching : Place → List ℕ → List ℕ → ℕ → Seat
+searching p choices trial rule = record {
+  state = AtWork p;
+  choices = choices;
+  masks = replicate 16 0;
+  trial = trial;
+  alternatives = replicate 16 0;
+  broken = rule;
+}
 
 -- the clinic of seat 0 on a desk where it stands there
 abbrev pub before : Seat → Clinic

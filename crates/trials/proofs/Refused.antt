@@ -11,7 +11,7 @@ use Rattle.search.specs.Bits.{hasBit}
 use Rattle.search.specs.Look.{isClosed, isAtWork}
 use Rattle.search.specs.Trolley.{single}
 use Rattle.runs.specs.declared.Asking.the-variants.{Enter, Leave, Choose, Relax, Read}
-use Rattle.runs.specs.declared.Reading.the-variants.{Options, Alternatives, Example}
+use Rattle.runs.specs.declared.Reading.the-variants.{Options, Alternatives, Example, RanInto}
 use Rattle.runs.specs.Room.{Room}
 use Rattle.runs.specs.Call.{Call, asks, turns, refused}
 use Rattle.runs.specs.Perform.{perform}
@@ -102,12 +102,15 @@ module _ (demand : Refusals) where
   by-31 : perform single (asks 0 Leave) nobody .answer .number ≡ 31
   by-31 = gives-31 demand nobody (passes []) 0 (lit< tt) Leave refl closed
 
+  ran-into-31 : perform single (asks 0 (Read RanInto)) nobody .answer .number ≡ 31
+  ran-into-31 = gives-31 demand nobody (passes []) 0 (lit< tt) (Read RanInto) refl closed
+
   by-32 : perform single (asks 0 Enter) is-ready .answer .number ≡ 32
   by-32 =
       gives-32 demand is-ready (passes ready-single) 0 (lit< tt) (λ e. false≢true (ap isClosed (sym is-ready-single ∙ e)))
 
   by-33 : perform single (asks 0 (Choose 0 0)) working .answer .number ≡ 33
-  by-33 = gives-33 demand working (passes entered-single) 0 (lit< tt) (Choose 0 0) _ refl refl at-work
+  by-33 = gives-33 demand working (passes entered-single) 0 (lit< tt) (Choose 0 0) _ refl refl refl at-work
 
   -- the other way: given 33, the seat is at work
   from-33 : isAtWork (seatIn working 0 .state) ≡ true
@@ -159,8 +162,9 @@ none-holds-0 = by-none proved-refusals
 pub no-seat-9 : perform single (asks 9 Enter) nobody ≡ record { answer = refused 30; room = nobody }
 no-seat-9 = nothing-done proved-refusals
 
-pub closed-31 : perform single (asks 0 Leave) nobody .answer .number ≡ 31
-closed-31 = by-31 proved-refusals
+pub closed-31 : (perform single (asks 0 Leave) nobody .answer .number ≡ 31)
+    × (perform single (asks 0 (Read RanInto)) nobody .answer .number ≡ 31)
+closed-31 = (by-31 proved-refusals, ran-into-31 proved-refusals)
 
 pub open-32 : perform single (asks 0 Enter) is-ready .answer .number ≡ 32
 open-32 = by-32 proved-refusals

@@ -16,7 +16,7 @@ use Rattle.search.specs.Look.{isClosed}
 use Rattle.search.specs.Clinic.{nothing16}
 use Rattle.search.specs.Trolley.{trolley, single}
 use Rattle.runs.specs.declared.Asking.the-variants.{Enter, Leave, Choose, Relax, Read}
-use Rattle.runs.specs.declared.Reading.the-variants.{Options, Alternatives, Example}
+use Rattle.runs.specs.declared.Reading.the-variants.{Options, Alternatives, Example, RanInto}
 use Rattle.runs.specs.Call.{Call, asks, turns}
 use Rattle.runs.specs.Perform.{perform}
 use Rattle.runs.proofs.Computing.{computing}
@@ -66,6 +66,10 @@ module _ (demand : EveryMoment) where
   -- a seat at work leaves, too
   leaves-at-work : IsDone single (moment single board entered-single) (asks 0 Leave)
   leaves-at-work = at entered-single .possible .leave working
+
+  -- and reads the rule that it ran into
+  reads-rule : IsDone single (moment single board entered-single) (asks 0 (Read RanInto))
+  reads-rule = at entered-single .possible .ran-into working
 
   reads-options : IsDone single (moment single board ready-single) (asks 0 (Read (Options 0)))
   reads-options = at ready-single .possible .ready is-ready-single 0 one-feature .options
@@ -126,6 +130,9 @@ seat-0-leaves = leaves proved-every-moment
 
 pub seat-0-leaves-at-work : IsDone single (moment single board entered-single) (asks 0 Leave)
 seat-0-leaves-at-work = leaves-at-work proved-every-moment
+
+pub seat-0-reads-a-rule-at-work : IsDone single (moment single board entered-single) (asks 0 (Read RanInto))
+seat-0-reads-a-rule-at-work = reads-rule proved-every-moment
 
 pub seat-0-reads-options : IsDone single (moment single board ready-single) (asks 0 (Read (Options 0)))
 seat-0-reads-options = reads-options proved-every-moment
