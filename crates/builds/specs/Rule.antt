@@ -47,6 +47,10 @@ abbrev pub oneOn : Option ℕ → Option ℕ
 oneOn none = none
 oneOn (some number) = some (suc number)
 
+abbrev pub isNone : Option ℕ → Bool
+isNone none = true
+isNone (some number) = false
+
 -- The test of an option placed at feature j: none, or the least number of a rule that is tested there and that what is placed
 -- breaks. Rules are numbered from 0 through the whole list.
 unfoldable pub firstBroken : List Rule → ℕ → List ℕ → Option ℕ
@@ -54,9 +58,5 @@ firstBroken [] j placed = none
 firstBroken (rule ∷ rules) j placed = cond (breaks rule j placed) (some 0) (oneOn (firstBroken rules j placed))
 
 -- passed: none is broken
-abbrev pub isNone : Option ℕ → Bool
-isNone none = true
-isNone (some number) = false
-
 unfoldable pub passes : List Rule → ℕ → List ℕ → Bool
 passes rules j placed = isNone (firstBroken rules j placed)

@@ -77,7 +77,7 @@ fn post(choices: [u8; 16], share: &mut [u8], sizes: &[u8]) -> Seat
         masks: [0u16; 16],
         trial: [255u8; 16],
         alternatives: in_force(choices),
-        broken: 255,
+        broken: 255, // none in this job yet
     }
 }
 

@@ -27,7 +27,7 @@ mul-seat : tie.Need-mul-seat
 mul-seat c = omega (arith, seat-read _ _ _ _ (not-refused (c .before)))
 
 array-copy-out-seat : tie.Need-array-copy-out-seat
-array-copy-out-seat c = seat-read _ _ _ _ (not-refused (c .before))
+array-copy-out-seat c = omega (arith, seat-read _ _ _ _ (not-refused (c .before)))
 
 returns-2 : tie.Need-returns-2
 returns-2 c = read-answer _ _ _ _ (not-refused (c .before .before)) _ refl
