@@ -1,4 +1,4 @@
--- What the contracts' relations say: of an answer that is refused, of a mask, of turns, and of an example and where it begins.
+-- What the contracts' relations say: of an answer that is refused, of a mask, of a rule, of turns, and of an example and where it begins.
 use Prim.Native.Nat.{ℕ}
 use mathlib.Core.Path.{_≡_, refl}
 use mathlib.Core.Bool.{true, false}
@@ -7,11 +7,12 @@ use native.Mathlib.Omega.{arith}
 use Rattle.builds.specs.Catalogue.{Catalogue, catalogueOf}
 use Rattle.runs.specs.declared.answers.Changed.{Changed}
 use Rattle.runs.specs.declared.answers.Left.{Left}
+use Rattle.runs.specs.declared.answers.Ran.{Ran}
 use Rattle.runs.specs.declared.answers.Turned.{Turned}
 use Rattle.runs.specs.Room.{Room}
 use Rattle.runs.specs.Call.{turns, Answer, refused, answers}
-use Rattle.runs.specs.Perform.{Outcome, perform, performed}
-use Rattle.runs.specs.Answers.{ChangesTo, ReadsAs, TurnsTo, BytesAre, BeginsAt, NumberIs, Lent}
+use Rattle.runs.specs.Perform.{Outcome, ruleAnswer, perform, performed}
+use Rattle.runs.specs.Answers.{ChangesTo, ReadsAs, RanAs, TurnsTo, BytesAre, BeginsAt, NumberIs, Lent}
 use Rattle.runs.proofs.Words.{lent as proved-lent}
 
 module _ (demand : Lent) (room : Room) where
@@ -35,6 +36,10 @@ module _ (demand : Lent) (room : Room) where
   pub left-5 : (left : Left) → ReadsAs (answering (answers 5 2 [] 0 false)) room left
       → (left .number ≡ 0) × (left .mask ≡ 5) × (left .count ≡ 2)
   left-5 = demand .left-is (answering (answers 5 2 [] 0 false)) room
+
+  -- rule 1
+  pub ran-1 : (ran : Ran) → RanAs (answering (ruleAnswer 1)) room ran → (ran .number ≡ 0) × (ran .rule ≡ 1)
+  ran-1 = demand .ran-is (answering (ruleAnswer 1)) room
 
   -- seven turns made, and a seat is still at work
   pub turned-7 : (turned : Turned) (board : List ℕ) → TurnsTo (answering (answers 0 0 [] 7 true)) turned board

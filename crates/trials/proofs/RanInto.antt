@@ -2,6 +2,7 @@
 -- after two. So the second broke rule 0. Once the seat is ready, none is answered. At every moment the rule is one of the two.
 use Prim.Native.Nat.{ℕ, zero, suc, _<_}
 use mathlib.Core.Path.{_≡_, refl, subst, ap}
+use mathlib.Core.Logic.{_⊎_, inl, inr}
 use mathlib.Core.Bool.{true, false}
 use mathlib.Core.List.{List, [], _∷_}
 use native.Mathlib.Omega.{arith}
@@ -48,6 +49,10 @@ as-computed : (rule-after 1 ≡ 255) × (rule-after 2 ≡ 0) × (given-in 1 ≡ 
 unfolding board computing moment
 as-computed = (refl, refl, refl, refl)
 
+three-computed : (rule-after 3 ≡ 0) × (given-in 3 ≡ 3)
+unfolding board computing moment
+three-computed = (refl, refl)
+
 at-work : isAtWork (clinicAt (afterCalls trolley (turns 1 ∷ []) entered) 0 .seat .state) ≡ true
 unfolding board computing moment
 at-work = refl
@@ -77,6 +82,25 @@ module _ (demand : EveryRule) where
       is-second (suc zero) rule l is-0 broke = subst (RunsInto trolley (steps trolley 1 start)) is-0 broke
       is-second (suc (suc n)) rule l is-0 broke = absurd (omega (arith, l))
 
+  -- rule 0 still stands a step later: that step broke it anew, or no rule
+  third-follows : RunsInto trolley (steps trolley 2 start) 0 ⊎ ((rule : ℕ) → RunsInto trolley (steps trolley 2 start) rule → ⊥)
+  third-follows =
+      let last = told 3 .a-rule (λ none. omega (arith, none, three-computed .0)) in
+      by-number (last .number) (omega (arith, last .is-made, three-computed .1))
+      (subst (RunsInto trolley (steps trolley (last .number) start)) (three-computed .0) (last .broke-it))
+      (λ l rule. last .none-since 2 rule (omega (arith, l)) (rw (three-computed .1) (lit< tt)))
+    where
+      by-number : (n : ℕ) → n < 3 → RunsInto trolley (steps trolley n start) 0
+          → (n < 2 → (rule : ℕ) → RunsInto trolley (steps trolley 2 start) rule → ⊥)
+          → RunsInto trolley (steps trolley 2 start) 0 ⊎ ((rule : ℕ) → RunsInto trolley (steps trolley 2 start) rule → ⊥)
+      by-number zero l broke since = inr (since (lit< tt))
+      by-number (suc zero) l broke since = inr (since (lit< tt))
+      by-number (suc (suc zero)) l broke since = inl broke
+      by-number (suc (suc (suc n))) l broke since = absurd (omega (arith, l))
+
+  is-answered : (w : ℕ) → perform trolley (asks 0 (Read RanInto)) (afterCalls trolley (turns w ∷ []) entered) .answer .number ≡ 0
+  is-answered w = told w .is-answered
+
   none-when-ready : rule-after 39 ≡ 255
   none-when-ready = told 39 .at-rest at-rest
 
@@ -96,6 +120,13 @@ none-kept demand = demand trolley board ready .opened opens 0 (lit< tt) .in-a-ru
 
 pub second-step-breaks-rule-0 : RunsInto trolley (steps trolley 1 start) 0
 second-step-breaks-rule-0 = second-fails proved-every-rule
+
+pub third-step-follows : RunsInto trolley (steps trolley 2 start) 0 ⊎ ((rule : ℕ) → RunsInto trolley (steps trolley 2 start) rule → ⊥)
+third-step-follows = third-follows proved-every-rule
+
+-- however many turns are asked for
+pub always-answered : (w : ℕ) → perform trolley (asks 0 (Read RanInto)) (afterCalls trolley (turns w ∷ []) entered) .answer .number ≡ 0
+always-answered = is-answered proved-every-rule
 
 pub ready-answers-none : rule-after 39 ≡ 255
 ready-answers-none = none-when-ready proved-every-rule
