@@ -11,8 +11,10 @@ fn main() -> Result<(), Refusal> {
     let mut desk = Desk::open(&trolley)?;
 
     desk.enter(SEAT)?;
-    wait(&mut desk)?;
     println!("entered:");
+    watch(&mut desk)?;
+    wait(&mut desk)?;
+    println!("ready:");
     show(&desk)?;
 
     desk.choose(SEAT, 2, 0)?;
@@ -26,6 +28,18 @@ fn main() -> Result<(), Refusal> {
         other => panic!("it fits no build with the choice, and the desk says {other:?}"),
     }
     desk.leave(SEAT)
+}
+
+/// A few turns one by one, each with the rule that the search last ran into.
+fn watch(desk: &mut Desk) -> Result<(), Refusal> {
+    for turn in 1..=5 {
+        desk.turns(1)?;
+        match desk.ran_into(SEAT)? {
+            Some(rule) => println!("  turn {turn}: last ran into rule {rule}"),
+            None => println!("  turn {turn}: has run into no rule"),
+        }
+    }
+    Ok(())
 }
 
 /// Turns in portions, until the clinic's job is done.

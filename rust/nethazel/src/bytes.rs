@@ -9,7 +9,7 @@ use std::fmt;
 const MARK: &[u8; 8] = b"nethazel";
 const LAYOUT_LENGTH: usize = 4;
 const FINGERPRINT_LENGTH: usize = 8;
-const SEAT_LENGTH: usize = 5 + 16 + 32 + 16 + 32;
+const SEAT_LENGTH: usize = 6 + 16 + 32 + 16 + 32;
 pub(crate) const LENGTH: usize =
     MARK.len() + LAYOUT_LENGTH + FINGERPRINT_LENGTH + 8 * SEAT_LENGTH + 1 + Board::LENGTH;
 
@@ -28,6 +28,7 @@ pub(crate) fn write(record: &DeskRecord, board: &Board, catalogue: &Catalogue) -
 
 fn write_seat(seat: &SeatRecord, bytes: &mut Vec<u8>) {
     bytes.extend([seat.state, seat.feature, seat.option, seat.depth, seat.next]);
+    bytes.push(seat.broken);
     bytes.extend(seat.choices);
     bytes.extend(seat.masks.iter().flat_map(|mask| mask.to_le_bytes()));
     bytes.extend(seat.trial);
@@ -104,6 +105,7 @@ impl Unread<'_> {
             option,
             depth,
             next,
+            broken: self.byte(),
             choices: self.take(),
             masks: self.masks(),
             trial: self.take(),

@@ -1,5 +1,6 @@
 use crate::bytes;
 use crate::ffi::{self, Changed, DeskRecord};
+use crate::seat::rule;
 use crate::{Board, Catalogue, Example, FromBytesError, OptionsLeft, Refusal, Seat, Turns};
 
 /// A desk: eight seats numbered 0 to 7, one for each clinic, over one catalogue.
@@ -31,7 +32,7 @@ impl Desk {
     /// How many bytes [`to_bytes`](Desk::to_bytes) gives.
     ///
     /// ```
-    /// assert_eq!(nethazel::Desk::BYTES, 20 + 8 * 101 + 1 + 32_768);
+    /// assert_eq!(nethazel::Desk::BYTES, 20 + 8 * 102 + 1 + 32_768);
     /// ```
     pub const BYTES: usize = bytes::LENGTH;
 
@@ -270,6 +271,40 @@ impl Desk {
         })
     }
 
+    /// The rule that the search of a seat last ran into, at work or ready: the last one that an option tried in this job
+    /// broke. Of an option that breaks several it is the lowest-numbered; rules are counted from 0 through the whole rule list,
+    /// in the order in which the catalogue got them. `None` where no rule was broken yet, and once the seat is ready.
+    ///
+    /// # Errors
+    ///
+    /// 30 for a seat above 7, 31 for a closed one.
+    ///
+    /// ```
+    /// use nethazel::{Catalogue, Desk, Refusal};
+    ///
+    /// let mut desk = Desk::open(
+    ///     &Catalogue::new(&[3, 3, 2])
+    ///         .rule(&[0, 1], &[[0, 1], [1, 0], [1, 2], [2, 1]])
+    ///         .rule(&[1, 2], &[[0, 0], [1, 1], [2, 0], [2, 1]]),
+    /// )?;
+    /// desk.enter(3)?;
+    /// desk.turns(1)?; // option 0 of feature 0, alone
+    /// assert_eq!(desk.ran_into(3)?, None);
+    /// desk.turns(1)?; // with option 0 of feature 1
+    /// assert_eq!(desk.ran_into(3)?, Some(0));
+    /// desk.turns(2)?; // with its option 1, then with option 0 of feature 2
+    /// assert_eq!(desk.ran_into(3)?, Some(1));
+    /// desk.turns(u16::MAX)?;
+    /// assert_eq!(desk.ran_into(3)?, None); // ready
+    /// assert_eq!(desk.ran_into(0), Err(Refusal::SeatClosed));
+    /// # Ok::<(), Refusal>(())
+    /// ```
+    pub fn ran_into(&self, seat: usize) -> Result<Option<usize>, Refusal> {
+        let ran = ffi::ran_into(self.record, self.board.bytes(), &self.catalogue, seat);
+        Refusal::done(ran.number)?;
+        Ok(rule(ran.rule))
+    }
+
     /// Makes `turns` turns, or fewer when no seat is at work. A turn gives one waiting seat one step of its search, around
     /// the ring; a seat whose job takes K steps is ready after at most 8×K turns.
     ///
@@ -393,9 +428,10 @@ impl Desk {
     ///      8   the mark of a desk: the letters nethazel
     ///      4   the layout, nethazel::LAYOUT
     ///      8   the catalogue's fingerprint
-    ///  8×101   the seats from 0 on, each:
+    ///  8×102   the seats from 0 on, each:
     ///            1   its state: 0 closed, 1 ready, 2 at work
     ///            4   its place: feature, option, depth, next; 0 if it is not at work
+    ///            1   the rule that its search last ran into; 255 for none, and if it is not at work
     ///           16   its choices; 255 for none
     ///           32   its masks of options left, two bytes each
     ///           16   its trial build; 255 for none

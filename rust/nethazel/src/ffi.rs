@@ -13,6 +13,7 @@ pub struct SeatRecord {
     pub option: u8,
     pub depth: u8,
     pub next: u8,
+    pub broken: u8, // the last rule broken in this job; 255 for none, and in the other states
     pub choices: [u8; 16],
     pub masks: [u16; 16],
     pub trial: [u8; 16],
@@ -44,6 +45,12 @@ pub struct ExampleAt {
     pub number: u8,
     pub from: usize,
     pub length: usize,
+}
+
+#[repr(C)]
+pub struct Ran {
+    pub number: u8,
+    pub rule: u8, // 255 for none
 }
 
 #[repr(C)]
@@ -149,6 +156,17 @@ extern "C" {
         feature: usize,
         option: usize,
     ) -> ExampleAt;
+    #[link_name = concat!("nethazel_ran_into_layout_", layout!())]
+    fn nethazel_ran_into(
+        desk: DeskRecord,
+        board: *const u8,
+        board_length: usize,
+        sizes: *const u8,
+        sizes_length: usize,
+        rules: *const u16,
+        rules_length: usize,
+        seat: usize,
+    ) -> Ran;
     #[link_name = concat!("nethazel_turns_layout_", layout!())]
     fn nethazel_turns(
         desk: DeskRecord,
@@ -249,6 +267,10 @@ pub fn example(
     call!(nethazel_example([desk] board.as_ptr(), catalogue, [seat, feature, option]))
 }
 
+pub fn ran_into(desk: DeskRecord, board: &[u8], catalogue: &Catalogue, seat: usize) -> Ran {
+    call!(nethazel_ran_into([desk] board.as_ptr(), catalogue, [seat]))
+}
+
 pub fn turns(desk: DeskRecord, board: &mut [u8], catalogue: &Catalogue, turns: u16) -> Turned {
     call!(nethazel_turns([desk] board.as_mut_ptr(), catalogue, [turns]))
 }
@@ -276,6 +298,7 @@ mod tests {
         );
         assert_eq!((size_of::<Changed>(), size_of::<Turned>()), (820, 824));
         assert_eq!((size_of::<Left>(), size_of::<ExampleAt>()), (8, 24));
+        assert_eq!(size_of::<Ran>(), 2);
     }
 
     #[test]
@@ -290,6 +313,8 @@ mod tests {
             turns(opened.desk, &mut [0; 32_767], &catalogue, 1).number,
             1
         );
+        let shown = ran_into(opened.desk, &[0; 32_767], &catalogue, 9);
+        assert_eq!((shown.number, shown.rule), (1, 0));
     }
 
     #[test]
@@ -304,6 +329,10 @@ mod tests {
         assert_eq!(turned.desk, unfit);
         assert_eq!(options(unfit, &board, &catalogue, 9, 9).number, 20);
         assert_eq!(alternatives(unfit, &board, &catalogue, 9, 9).number, 20);
+        let shown = ran_into(unfit, &board, &catalogue, 9);
+        assert_eq!((shown.number, shown.rule), (20, 0));
+        let faulty = Catalogue::new(&[3, 17, 2]);
+        assert_eq!(ran_into(unfit, &board, &faulty, 9).number, 11);
         let entered = enter(unfit, &mut board, &catalogue, 0);
         assert_eq!((entered.number, entered.desk), (20, unfit));
     }
@@ -334,6 +363,45 @@ mod tests {
             assert_eq!(shown.number, number);
             assert_eq!(shown.mask, if number == 0 { mask } else { 0 });
             assert_eq!(turns(edited, &mut board, &catalogue, 1).desk, edited);
+        }
+    }
+
+    /// Seats 0 closed, 1 at work and 2 ready, under two rules.
+    #[test]
+    fn a_rule_that_is_none_or_of_a_seat_not_at_work_is_refused_with_20() {
+        let catalogue = Catalogue::new(&[3, 3, 2])
+            .rule(&[0, 1], &[[0, 1], [2, 0]])
+            .rule(&[2], &[[1]]);
+        let mut board = [0; 32_768];
+        let opened = open(&mut board, &catalogue);
+        let entered = enter(opened.desk, &mut board, &catalogue, 2);
+        let ready = turns(entered.desk, &mut board, &catalogue, u16::MAX);
+        let desk = enter(ready.desk, &mut board, &catalogue, 1).desk;
+        assert_eq!([0, 1, 2].map(|seat| desk.seats[seat].state), [0, 2, 1]);
+        assert_eq!([0, 1, 2].map(|seat| desk.seats[seat].broken), [255; 3]);
+        for (seat, rule, number) in [
+            (1, 0, 0),
+            (1, 1, 0),
+            (1, 2, 20),
+            (1, 64, 20),
+            (1, 254, 20),
+            (1, 255, 0),
+            (2, 0, 20),
+            (2, 1, 20),
+            (2, 254, 20),
+            (2, 255, 0),
+            (0, 0, 20),
+            (0, 254, 20),
+            (0, 255, 0),
+        ] {
+            let mut edited = desk;
+            edited.seats[seat].broken = rule;
+            let kept = edited.seats[1].broken;
+            let shown = ran_into(edited, &board, &catalogue, 1);
+            assert_eq!(shown.number, number, "{seat} {rule}");
+            assert_eq!(shown.rule, if number == 0 { kept } else { 0 });
+            let turned = turns(edited, &mut board, &catalogue, 0);
+            assert_eq!((turned.number, turned.desk), (number, edited));
         }
     }
 

@@ -2,7 +2,7 @@
 // symbols that have it in their names, and build.rs looks for them before anything is linked.
 macro_rules! layout {
     () => {
-        1
+        2
     };
 }
 

@@ -2,7 +2,8 @@
 //!
 //! Eight clinics share one [`Desk`]. Each sits at a seat, chooses options of a product out of one [`Catalogue`], and sees
 //! exactly the options that still fit some complete product (a build), each with the first such build as example; and of
-//! each choice it made, what could replace it. What can't be done is a [`Refusal`], which has the paper's number.
+//! each choice it made, what could replace it. While it waits, it sees which rule the search last ran into. What can't be
+//! done is a [`Refusal`], which has the paper's number.
 //!
 //! The trolley has three features with 3, 3 and 2 options, and two rules. A clinic at seat 3 wants option 0 of feature 2:
 //!
@@ -15,6 +16,8 @@
 //!         .rule(&[1, 2], &[[0, 0], [1, 1], [2, 0], [2, 1]]);
 //!     let mut desk = Desk::open(&trolley)?;
 //!     desk.enter(3)?;
+//!     desk.turns(4)?;
+//!     assert_eq!(desk.ran_into(3)?, Some(1)); // its search has just run into the second rule
 //!     while desk.turns(u16::MAX)?.working {}
 //!     assert_eq!(desk.options(3, 0)?.count(), 3); // all options of feature 0 are left
 //!
@@ -38,7 +41,7 @@
 //! hands numbers over and back. It adds by type what the proofs ask of a run: a desk, its board and its catalogue stay
 //! together from opening on. A desk is moved as [bytes](Desk::to_bytes).
 //!
-//! Seats, features, options and how many they are, are `usize` throughout. Where the archive's own numbers are shown (a
+//! Seats, features, options, rules and how many they are, are `usize` throughout. Where the archive's own numbers are shown (a
 //! catalogue's lists, the arrays of a seat's record, the board), they have the archive's types.
 //!
 //! What will grow is marked so: refusals, states, errors, and the fields of [`Place`] and [`Turns`]. A `match` on them needs

@@ -40,7 +40,8 @@ pub enum Refusal {
     FeatureTwice = 17,
     /// A row's option is not below its feature's size.
     RowOption = 18,
-    /// The desk doesn't fit the catalogue. A [`Desk`](crate::Desk) keeps the catalogue it was opened with, so only
+    /// The desk doesn't fit the catalogue: its record names an option, a feature or a rule that is not there, or has something
+    /// where a seat in its state has nothing. A [`Desk`](crate::Desk) keeps the catalogue it was opened with, so only
     /// [`Desk::from_bytes`](crate::Desk::from_bytes) meets this one.
     DeskUnfit = 20,
     /// The seat is above 7.
@@ -49,7 +50,7 @@ pub enum Refusal {
     SeatClosed = 31,
     /// The seat is open already (enter only).
     SeatOpen = 32,
-    /// The seat is at work (not for enter and leave).
+    /// The seat is at work (not for enter, leave and ran_into).
     SeatAtWork = 33,
     /// The feature is not in the catalogue.
     FeatureMissing = 34,

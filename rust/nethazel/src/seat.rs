@@ -23,6 +23,7 @@ impl fmt::Debug for Seat<'_> {
     fn fmt(&self, f: &mut fmt::Formatter<'_>) -> fmt::Result {
         f.debug_struct("Seat")
             .field("state", &self.state())
+            .field("ran_into", &self.ran_into())
             .field("choices", self.choices())
             .field("masks", self.masks())
             .field("alternatives", self.alternatives())
@@ -155,6 +156,23 @@ impl<'desk> Seat<'desk> {
         matches!(self.state(), State::AtWork(_))
     }
 
+    /// The rule that its search last ran into, as the record keeps it: the last one that an option tried in this job broke,
+    /// counted from 0 through the whole rule list. `None` before the first, and where the seat is ready or closed.
+    ///
+    /// ```
+    /// use nethazel::{Catalogue, Desk};
+    ///
+    /// let mut desk = Desk::open(&Catalogue::new(&[2]).rule(&[0], &[[1]]))?;
+    /// desk.enter(0)?;
+    /// assert_eq!(desk.seat(0)?.ran_into(), None);
+    /// desk.turns(1)?; // option 0 was tried
+    /// assert_eq!(desk.seat(0)?.ran_into(), Some(0));
+    /// # Ok::<(), nethazel::Refusal>(())
+    /// ```
+    pub fn ran_into(self) -> Option<usize> {
+        rule(self.0.broken)
+    }
+
     /// The option chosen for the feature, if it has a choice.
     ///
     /// ```
@@ -227,4 +245,9 @@ impl<'desk> Seat<'desk> {
     pub fn trial(self) -> &'desk [u8; 16] {
         &self.0.trial
     }
+}
+
+/// The rule of a number that the archive gives: 255 is none.
+pub(crate) fn rule(number: u8) -> Option<usize> {
+    (number != 255).then_some(number.into())
 }

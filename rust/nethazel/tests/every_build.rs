@@ -1,9 +1,10 @@
-//! Small catalogues by chance, each compared with all its builds, one after another.
+//! Small catalogues by chance, each compared with all its builds, one after another, and with the rules that its search
+//! runs into, turn by turn.
 
 mod common;
 
 use common::finish;
-use nethazel::{Catalogue, Desk, Refusal};
+use nethazel::{Catalogue, Desk, Refusal, State};
 
 /// Numbers by chance, the same at every run (Marsaglia's xorshift).
 struct Chance(u64);
@@ -43,6 +44,13 @@ fn any_rule(chance: &mut Chance, sizes: &[usize]) -> Rule {
     Rule { features, rows }
 }
 
+impl Rule {
+    fn allows(&self, placed: &[usize]) -> bool {
+        let at = |feature: &usize| placed[*feature];
+        self.rows.contains(&self.features.iter().map(at).collect())
+    }
+}
+
 type Choice = (usize, usize); // a feature and its option
 type Build = Vec<usize>;
 
@@ -55,11 +63,7 @@ fn builds(sizes: &[usize], rules: &[Rule]) -> Vec<Build> {
             .flat_map(|build| (0..size).map(move |option| [&build[..], &[option]].concat()))
             .collect();
     }
-    builds.retain(|build: &Build| {
-        let at = |feature: &usize| build[*feature];
-        let satisfies = |rule: &Rule| rule.rows.contains(&rule.features.iter().map(at).collect());
-        rules.iter().all(satisfies)
-    });
+    builds.retain(|build: &Build| rules.iter().all(|rule| rule.allows(build)));
     builds
 }
 
@@ -135,20 +139,67 @@ fn compare_relaxed(desk: &Desk, builds: &[Build], choices: &[Choice]) -> Result<
     Ok(())
 }
 
+/// Sizes and rules, and the catalogue that has them.
+fn any_catalogue(chance: &mut Chance) -> (Vec<usize>, Vec<Rule>, Catalogue) {
+    let sizes: Vec<usize> = (0..=chance.below(5)).map(|_| 1 + chance.below(4)).collect();
+    let rules: Vec<Rule> = (0..chance.below(5))
+        .map(|_| any_rule(chance, &sizes))
+        .collect();
+    let catalogue = rules
+        .iter()
+        .fold(Catalogue::new(&sizes), |catalogue, rule| {
+            let with_rule = catalogue.rule_of_rows(&rule.features, &rule.rows);
+            with_rule.expect("even rows")
+        });
+    (sizes, rules, catalogue)
+}
+
+/// Of the rules that are tested where the last option is placed, the lowest-numbered that what is placed breaks.
+fn first_broken(rules: &[Rule], placed: &[usize]) -> Option<usize> {
+    let depth = placed.len() - 1;
+    let tested = |rule: &Rule| rule.features.iter().max() == Some(&depth);
+    rules
+        .iter()
+        .position(|rule| tested(rule) && !rule.allows(placed))
+}
+
+/// Turn by turn seat 5 names the rule that the option tried has broken, else the one that it named before; ready, none.
+fn follow_rules(desk: &mut Desk, rules: &[Rule]) -> Result<(), Refusal> {
+    let mut named = None;
+    while let State::AtWork(place) = desk.seat(5)?.state() {
+        assert_eq!(desk.ran_into(5)?, named);
+        let trial = desk.seat(5)?.trial().iter().copied().map(usize::from);
+        let placed: Vec<usize> = trial.take(place.depth).chain([place.next]).collect();
+        named = first_broken(rules, &placed).or(named);
+        desk.turns(1)?;
+    }
+    assert_eq!(desk.ran_into(5)?, None);
+    Ok(())
+}
+
+#[test]
+fn the_rules_run_into_are_those_that_the_options_tried_break() -> Result<(), Refusal> {
+    let mut chance = Chance(1105);
+    for _ in 0..60 {
+        let (_, rules, catalogue) = any_catalogue(&mut chance);
+        let mut desk = Desk::open(&catalogue)?;
+        desk.enter(5)?;
+        follow_rules(&mut desk, &rules)?;
+        for feature in 0..catalogue.features() {
+            if let Some(option) = desk.options(5, feature)?.iter().last() {
+                desk.choose(5, feature, option)?;
+                follow_rules(&mut desk, &rules)?;
+            }
+        }
+    }
+    Ok(())
+}
+
 #[test]
 fn options_examples_and_alternatives_are_those_of_all_builds() -> Result<(), Refusal> {
     let mut chance = Chance(4711);
     for _ in 0..200 {
-        let sizes: Vec<usize> = (0..=chance.below(5)).map(|_| 1 + chance.below(4)).collect();
-        let rules: Vec<Rule> = (0..chance.below(5))
-            .map(|_| any_rule(&mut chance, &sizes))
-            .collect();
-        let mut catalogue = Catalogue::new(&sizes);
-        for rule in &rules {
-            catalogue = catalogue
-                .rule_of_rows(&rule.features, &rule.rows)
-                .expect("even rows");
-        }
+        let (sizes, rules, catalogue) = any_catalogue(&mut chance);
         let mut desk = Desk::open(&catalogue)?;
         desk.enter(5)?;
         finish(&mut desk)?;

@@ -10,7 +10,9 @@ use std::error::Error;
 const LAYOUT_AT: usize = 8;
 const FINGERPRINT: usize = 12;
 const SEATS: usize = 20;
-const BOARD: usize = SEATS + 8 * 101 + 1;
+const SEAT: usize = 102; // bytes each
+const RULE: usize = 5; // in a seat, the one last run into
+const BOARD: usize = SEATS + 8 * SEAT + 1;
 
 // Fingerprints, computed by another program: of the trolley, and of no sizes and no rules.
 const TROLLEY: u64 = 0xe27a_0407_3400_4101;
@@ -34,9 +36,14 @@ fn a_desk_moved_at_every_turn_is_the_desk_that_stayed() -> Result<(), Box<dyn Er
     let catalogue = trolley();
     let mut stayed = busy()?;
     let mut moved = stayed.clone();
+    assert_eq!(
+        (stayed.ran_into(1)?, stayed.ran_into(7)?),
+        (Some(0), Some(1))
+    );
     while stayed.is_working() {
         moved = Desk::from_bytes(&catalogue, &moved.to_bytes())?;
         assert_eq!(moved, stayed);
+        assert_eq!(moved.ran_into(1)?, stayed.ran_into(1)?);
         assert_eq!(moved.turns(1)?, stayed.turns(1)?);
     }
     moved = Desk::from_bytes(&trolley(), &moved.to_bytes())?;
@@ -55,14 +62,14 @@ fn the_bytes_have_the_form_that_is_documented() -> Result<(), Refusal> {
     assert_eq!(bytes[..LAYOUT_AT], *b"nethazel");
     assert_eq!(bytes[LAYOUT_AT..FINGERPRINT], LAYOUT.to_le_bytes());
     assert_eq!(bytes[FINGERPRINT..SEATS], TROLLEY.to_le_bytes());
-    let seat_2 = &bytes[SEATS + 2 * 101..][..101];
-    assert_eq!(seat_2[..5], [1, 0, 0, 0, 0]);
-    assert_eq!(seat_2[5..9], [255, 255, 0, 255]);
-    assert_eq!(seat_2[21..27], [2, 0, 5, 0, 1, 0]);
-    assert_eq!(seat_2[53..69], [255; 16]);
-    assert_eq!(seat_2[69..75], [0, 0, 0, 0, 3, 0]);
-    assert_eq!(bytes[SEATS + 101..][..5], [2, 1, 2, 1, 2]);
-    assert_eq!(bytes[SEATS + 7 * 101..][..5], [2, 1, 2, 2, 0]);
+    let seat_2 = &bytes[SEATS + 2 * SEAT..][..SEAT];
+    assert_eq!(seat_2[..6], [1, 0, 0, 0, 0, 255]);
+    assert_eq!(seat_2[6..10], [255, 255, 0, 255]);
+    assert_eq!(seat_2[22..28], [2, 0, 5, 0, 1, 0]);
+    assert_eq!(seat_2[54..70], [255; 16]);
+    assert_eq!(seat_2[70..76], [0, 0, 0, 0, 3, 0]);
+    assert_eq!(bytes[SEATS + SEAT..][..6], [2, 1, 2, 1, 2, 0]);
+    assert_eq!(bytes[SEATS + 7 * SEAT..][..6], [2, 1, 2, 2, 0, 0]);
     assert_eq!(usize::from(bytes[BOARD - 1]), desk.next_seat());
     assert_eq!(&bytes[BOARD..], desk.board().bytes());
     Ok(())
@@ -73,7 +80,7 @@ fn two_bytes_of_a_mask_are_told_apart() -> Result<(), Refusal> {
     let mut desk = Desk::open(&Catalogue::new(&[16]).rule(&[0], &[[0], [9]]))?;
     desk.enter(0)?;
     finish(&mut desk)?;
-    assert_eq!(desk.to_bytes()[SEATS + 21..][..2], [1, 2]);
+    assert_eq!(desk.to_bytes()[SEATS + 22..][..2], [1, 2]);
     Ok(())
 }
 
@@ -103,6 +110,14 @@ fn another_length_and_another_layout_are_told() -> Result<(), Refusal> {
             LAYOUT + 1
         )
     );
+    // Of layout 1, where a seat had a byte less.
+    let earlier = [
+        &bytes[..LAYOUT_AT],
+        &1u32.to_le_bytes(),
+        &bytes[FINGERPRINT..Desk::BYTES - 8],
+    ]
+    .concat();
+    assert_eq!(refused(&earlier), FromBytesError::Layout(1));
     Ok(())
 }
 
@@ -120,7 +135,7 @@ fn bytes_without_the_mark_are_no_desk() -> Result<(), Refusal> {
     Ok(())
 }
 
-/// Other rules, or sizes that a record fits as well: the archive would take them.
+/// Also with rules or sizes that the record fits as well, which the archive would take.
 #[test]
 fn another_catalogue_is_told() -> Result<(), Refusal> {
     let bytes = busy()?.to_bytes();
@@ -146,7 +161,11 @@ fn what_the_archive_refuses_is_no_desk() -> Result<(), Refusal> {
     let bytes = busy()?.to_bytes();
     let places = [
         (SEATS, 3),
-        (SEATS + 2 * 101 + 5, 3),
+        (SEATS + 2 * SEAT + 6, 3),
+        (SEATS + SEAT + RULE, 2), // at work, and the trolley has two rules
+        (SEATS + SEAT + RULE, 254),
+        (SEATS + 2 * SEAT + RULE, 0), // ready
+        (SEATS + RULE, 0),            // closed
         (BOARD - 1, 8),
         (BOARD - 1, 255),
     ];
@@ -162,6 +181,19 @@ fn what_the_archive_refuses_is_no_desk() -> Result<(), Refusal> {
     Ok(())
 }
 
+/// A rule is kept by a seat at work, and by no other.
+#[test]
+fn a_rule_of_the_catalogue_is_taken_and_shown() -> Result<(), Box<dyn Error>> {
+    let mut bytes = busy()?.to_bytes();
+    for (byte, rule) in [(0, Some(0)), (1, Some(1)), (255, None)] {
+        bytes[SEATS + SEAT + RULE] = byte;
+        let desk = Desk::from_bytes(&trolley(), &bytes)?;
+        assert_eq!((desk.ran_into(1)?, desk.seat(1)?.ran_into()), (rule, rule));
+        assert_eq!(desk.to_bytes(), bytes);
+    }
+    Ok(())
+}
+
 /// Who means to gives a desk another catalogue's fingerprint: then the archive checks.
 #[test]
 fn a_fingerprint_is_no_signature() -> Result<(), Box<dyn Error>> {
@@ -174,9 +206,12 @@ fn a_fingerprint_is_no_signature() -> Result<(), Box<dyn Error>> {
     let bytes = with_fingerprint(&Desk::open(&smaller)?.to_bytes()[FINGERPRINT..SEATS])?;
     let unfit = FromBytesError::Refused(Refusal::DeskUnfit);
     assert_eq!(Desk::from_bytes(&smaller, &bytes), Err(unfit));
-    let ruleless = Catalogue::new(&[3, 3, 2]);
+    let ruleless = Catalogue::new(&[3, 3, 2]); // and a seat at work has run into a rule
     let bytes = with_fingerprint(&Desk::open(&ruleless)?.to_bytes()[FINGERPRINT..SEATS])?;
-    assert_eq!(Desk::from_bytes(&ruleless, &bytes)?.catalogue(), &ruleless);
+    assert_eq!(Desk::from_bytes(&ruleless, &bytes), Err(unfit));
+    let narrower = trolley().rule(&[0], &[[0]]);
+    let bytes = with_fingerprint(&Desk::open(&narrower)?.to_bytes()[FINGERPRINT..SEATS])?;
+    assert_eq!(Desk::from_bytes(&narrower, &bytes)?.catalogue(), &narrower);
     // The fingerprint of no sizes and no rules: sixteen bytes of 0.
     let bytes = with_fingerprint(&EMPTY.to_le_bytes())?;
     let fault = FromBytesError::Refused(Refusal::FeatureCount);
@@ -189,7 +224,7 @@ fn a_fingerprint_is_no_signature() -> Result<(), Box<dyn Error>> {
 fn a_record_is_kept_as_the_archive_hands_it_back() -> Result<(), Box<dyn Error>> {
     let desk = busy()?;
     let mut bytes = desk.to_bytes();
-    bytes[SEATS + 2 * 101 + 1..][..4].copy_from_slice(&[1, 2, 3, 4]);
+    bytes[SEATS + 2 * SEAT + 1..][..4].copy_from_slice(&[1, 2, 3, 4]);
     assert_ne!(bytes, desk.to_bytes());
     let tidy = Desk::from_bytes(&trolley(), &bytes)?;
     assert_eq!(tidy, desk);
@@ -233,7 +268,7 @@ fn an_example_on_a_board_of_255s_has_an_entry_for_each_feature() -> Result<(), B
 fn a_record_with_any_byte_changed_is_refused_or_safe() -> Result<(), Refusal> {
     let bytes = busy()?.to_bytes();
     let (mut taken, mut refused) = (0, 0);
-    for place in SEATS..SEATS + 3 * 101 {
+    for place in SEATS..SEATS + 3 * SEAT {
         for byte in [0, 2, 16, 255] {
             let mut edited = bytes.clone();
             edited[place] = byte;
@@ -266,6 +301,7 @@ fn use_all_calls(desk: &mut Desk) -> Result<(), Refusal> {
                 desk.options(seat, feature).err(),
                 desk.alternatives(seat, feature).err(),
                 desk.example(seat, feature, option).err(),
+                desk.ran_into(seat).err(),
             ];
             assert!(!refusals.contains(&Some(Refusal::DeskUnfit)));
         }

@@ -137,6 +137,9 @@ fn calls_are_refused_by_the_table() -> Result<(), Refusal> {
     assert_eq!(number(&|desk| desk.enter(8).err()), 30);
     assert_eq!(number(&|desk| desk.leave(8).err()), 30);
     assert_eq!(number(&|desk| desk.leave(0).err()), 31);
+    assert_eq!(number(&|desk| desk.ran_into(usize::MAX).err()), 30);
+    assert_eq!(number(&|desk| desk.ran_into(8).err()), 30);
+    assert_eq!(number(&|desk| desk.ran_into(0).err()), 31);
     assert_eq!(number(&|desk| desk.enter(1).err()), 32);
     assert_eq!(number(&|desk| desk.enter(2).err()), 32);
     assert_eq!(number(&|desk| desk.choose(2, 3, 99).err()), 34);
@@ -155,6 +158,7 @@ fn calls_are_refused_by_the_table() -> Result<(), Refusal> {
     assert_eq!(number(&|desk| desk.alternatives(2, 0).err()), 38);
     assert_eq!(number(&|desk| desk.alternatives(2, 1).err()), 38);
     assert_eq!(desk.alternatives(2, 2)?.mask(), 3);
+    assert_eq!((desk.ran_into(1)?, desk.ran_into(2)?), (Some(1), None)); // at work, and ready
     Ok(())
 }
 

@@ -59,6 +59,8 @@ fn a_thread_of_64_kb_makes_every_call() -> Result<(), Box<dyn std::error::Error>
     let every_call = || -> Result<String, nethazel::FromBytesError> {
         let mut desk = Desk::open(&trolley())?;
         desk.enter(0)?;
+        desk.turns(4)?;
+        assert_eq!(desk.ran_into(0)?, Some(1));
         finish(&mut desk)?;
         desk.choose(0, 2, 0)?;
         finish(&mut desk)?;

@@ -85,6 +85,58 @@ fn p6_to_p8_the_pairs_take_their_steps() -> Result<(), Refusal> {
 }
 
 #[test]
+fn the_first_steps_run_into_rule_0_and_then_rule_1() -> Result<(), Refusal> {
+    let mut desk = Desk::open(&trolley())?;
+    desk.enter(3)?;
+    let first_job = desk.clone();
+    for ran_into in [None, None, Some(0), Some(0), Some(1), Some(1)] {
+        assert_eq!(desk.ran_into(3)?, ran_into);
+        assert_eq!(desk.seat(3)?.ran_into(), ran_into);
+        desk.turns(1)?;
+    }
+    finish(&mut desk)?;
+    assert_eq!(desk.ran_into(3)?, None);
+    desk.choose(3, 2, 0)?;
+    assert_eq!(desk.ran_into(3)?, None); // of this job, not of the last
+    desk.turns(2)?;
+    assert_eq!(desk.ran_into(3)?, Some(0));
+    desk.leave(3)?;
+    assert_eq!(desk.seat(3)?.ran_into(), None);
+    desk.enter(3)?;
+    assert_eq!(desk.seat(3)?, first_job.seat(3)?);
+    Ok(())
+}
+
+/// Rules are numbered through the whole list, also those that are tested at other features; of several that are broken the
+/// lowest-numbered is named.
+#[test]
+fn the_rule_named_is_the_lowest_numbered_that_was_broken() -> Result<(), Refusal> {
+    let catalogue = Catalogue::new(&[2, 2])
+        .rule(&[1], &[[1]])
+        .rule(&[0], &[[1]])
+        .rule(&[0, 1], &[[1, 1]])
+        .rule(&[0], &[[1]]);
+    let mut desk = Desk::open(&catalogue)?;
+    desk.enter(3)?;
+    let mut named = Vec::new();
+    while desk.is_working() {
+        desk.turns(1)?;
+        named.push(desk.ran_into(3)?);
+    }
+    // The pairs: (0, 0) falls at feature 0; (0, 1) falls at option 0 of feature 1, then is found; (1, 0) falls at both; (1, 1)
+    // falls at option 0 of feature 0, then is found, and the seat is ready.
+    let (falls_at_0, falls_at_1) = (Some(1), Some(0));
+    assert_eq!(
+        named,
+        [
+            falls_at_0, falls_at_0, falls_at_1, falls_at_1, falls_at_0, falls_at_0, falls_at_1,
+            falls_at_0, falls_at_0, None
+        ]
+    );
+    Ok(())
+}
+
+#[test]
 fn both_options_of_the_chosen_feature_are_alternatives() -> Result<(), Refusal> {
     let (mut desk, _) = entered(&trolley())?;
     assert_eq!(desk.seat(3)?.alternatives(), &[0; 16]);
