@@ -52,12 +52,31 @@ pub fn alternatives(
     Ok((mask, mask.count_ones()))
 }
 
+/// The rule that seat c last ran into, 255 for none; or the refusal number.
+pub fn ran_into(
+    desk: &Desk,
+    board: &[u8],
+    sizes: &[u8],
+    rules: &[u16],
+    c: usize,
+) -> Result<u8, u8> {
+    if board.len() != BOARD {
+        return Err(1);
+    }
+    checked_desk(desk, sizes, rules)?;
+    let seat = desk.seats.get(c).ok_or(30)?;
+    match seat.state {
+        State::Closed => Err(31),
+        State::Ready | State::AtWork(_) => Ok(seat.broken),
+    }
+}
+
 /// 10 to 20; else where the rules stand.
 #[inline]
 fn checked_desk<'a>(desk: &Desk, sizes: &'a [u8], list: &'a [u16]) -> Result<Found<'a>, u8> {
     let limits = checked_sizes(sizes)?;
     let rules = Found::in_list(sizes, &limits, list)?;
-    if !fits(desk, &limits) {
+    if !fits(desk, &limits, rules.count) {
         return Err(20);
     }
     Ok(rules)
@@ -107,6 +126,7 @@ fn checked_sizes(sizes: &[u8]) -> Result<[u8; 16], u8> {
 struct Found<'a> {
     sizes: &'a [u8],
     rules: [&'a [u16]; 64], // each from its header on
+    count: u8,              // of them
     tested_at: [u64; 16],   // for each feature, bit r for a rule r whose highest it is
 }
 
@@ -132,6 +152,7 @@ impl<'a> Found<'a> {
         Ok(Found {
             sizes,
             rules,
+            count: count as u8,
             tested_at,
         })
     }
@@ -212,34 +233,39 @@ impl Rules for Found<'_> {
         self.sizes
     }
 
-    fn passed(&self, j: usize, placed: &[u8; 16]) -> bool {
+    fn first_broken(&self, j: usize, placed: &[u8; 16]) -> Option<u8> {
         let mut left = self.tested_at[j];
         while left != 0 {
-            let rule = self.rules[left.trailing_zeros() as usize];
+            let number = left.trailing_zeros();
+            let rule = self.rules[number as usize];
             let k = usize::from(rule[0]);
             let (features, rows) = rule[2..].split_at(k);
             if !of_arity!(k, some_row(features, rows, placed)) {
-                return false;
+                return Some(number as u8);
             }
             left &= left - 1;
         }
-        true
+        None
     }
 }
 
-/// Number 20: whether the desk fits the catalogue.
-fn fits(desk: &Desk, limits: &[u8; 16]) -> bool {
+/// Number 20: whether the desk fits the catalogue, which has so many rules.
+fn fits(desk: &Desk, limits: &[u8; 16], rules: u8) -> bool {
     let masks = limits.map(|size| ((1u32 << size) - 1) as u16);
-    desk.next < 8 && (desk.seats.iter()).all(|seat| seat_fits(seat, limits, &masks))
+    desk.next < 8 && (desk.seats.iter()).all(|seat| seat_fits(seat, limits, &masks, rules))
 }
 
-fn seat_fits(seat: &Seat, limits: &[u8; 16], masks: &[u16; 16]) -> bool {
-    let depth = match seat.state {
+fn seat_fits(seat: &Seat, limits: &[u8; 16], masks: &[u16; 16], rules: u8) -> bool {
+    // How many options are placed, and how many rules it may have run into.
+    let (depth, rules) = match seat.state {
         State::Closed => return *seat == Seat::CLOSED,
-        State::Ready => 0,
-        State::AtWork(place) if place_fits(place, limits) => usize::from(place.depth),
+        State::Ready => (0, 0),
+        State::AtWork(place) if place_fits(place, limits) => (usize::from(place.depth), rules),
         State::AtWork(_) => return false,
     };
+    if seat.broken != NONE && rules <= seat.broken {
+        return false;
+    }
     let choice_fits = |f: usize| (seat.choices[f] == NONE) | (seat.choices[f] < limits[f]);
     let mask_fits = |f: usize| seat.masks[f] & !masks[f] == 0;
     let alternatives_fit = |f: usize| match seat.choices[f] {
@@ -303,5 +329,10 @@ impl<'a> Host<'a> {
     pub fn alternatives(&self, c: usize, i: usize) -> Result<(u16, u32), u8> {
         let (sizes, rules) = (self.catalogue.sizes(), self.catalogue.rule_list());
         alternatives(&self.desk, &self.board, sizes, rules, c, i)
+    }
+
+    pub fn ran_into(&self, c: usize) -> Result<u8, u8> {
+        let (sizes, rules) = (self.catalogue.sizes(), self.catalogue.rule_list());
+        ran_into(&self.desk, &self.board, sizes, rules, c)
     }
 }

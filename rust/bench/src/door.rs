@@ -55,6 +55,11 @@ impl<'a> Desk<'a> {
         alternatives(&self.record, &self.board, self.catalogue, c, i)
     }
 
+    /// The rule that a seat last ran into, 255 for none; or the refusal number.
+    pub fn ran_into(&self, c: usize) -> Result<u8, u8> {
+        ran_into(&self.record, &self.board, self.catalogue, c)
+    }
+
     /// The turns made, and whether a seat is still at work.
     pub fn turns(&mut self, w: u16) -> (u16, bool) {
         turns(&mut self.record, &mut self.board, self.catalogue, w).expect("turns refused")
@@ -91,6 +96,20 @@ pub fn alternatives(
     }
 }
 
+/// The rule that a seat last ran into, 255 for none; or the refusal number.
+pub fn ran_into(
+    desk: &DeskRecord,
+    board: &[u8],
+    catalogue: &Catalogue,
+    c: usize,
+) -> Result<u8, u8> {
+    let ran = ffi::ran_into(*desk, board, catalogue, c);
+    match ran.number {
+        0 => Ok(ran.rule),
+        number => Err(number),
+    }
+}
+
 /// A desk's record as plain Rust has it.
 pub fn plain_desk(desk: &DeskRecord) -> checked::Desk {
     checked::Desk {
@@ -117,6 +136,7 @@ fn plain_seat(seat: SeatRecord) -> Seat {
         masks: seat.masks,
         trial: seat.trial,
         alternatives: seat.alternatives,
+        broken: seat.broken,
     }
 }
 
@@ -139,6 +159,7 @@ fn record_of(seat: Seat) -> SeatRecord {
         option: place.option,
         depth: place.depth,
         next: place.next,
+        broken: seat.broken,
         choices: seat.choices,
         masks: seat.masks,
         trial: seat.trial,

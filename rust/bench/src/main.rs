@@ -245,6 +245,7 @@ fn main() -> std::io::Result<()> {
     let families = all_families();
     same::same_refusals();
     same::same_alternatives();
+    same::same_ran_into();
     for family in &families {
         for seats in [1, 8] {
             same::same_steps::<false>(family, seats);

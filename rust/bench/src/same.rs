@@ -29,6 +29,14 @@ pub fn same_steps<const BY_FIRST: bool>(family: &Family, seats: usize) {
             family.name
         );
     }
+    for c in 0..=8 {
+        assert_eq!(
+            desk.ran_into(c),
+            checked.ran_into(c),
+            "{}: the rule run into",
+            family.name
+        );
+    }
 }
 
 /// Choices at a third of the features, other ones for each seat.
@@ -121,7 +129,51 @@ fn alternatives_of_both(
     answer
 }
 
-/// A call of turns, or of alternatives, that is refused.
+/// On the trolley: after each of some turns the rules that the paper's test names, and what is answered of every seat is
+/// alike, with each number from 30 on that the call can give; also of records that no search would leave.
+pub fn same_ran_into() {
+    let trolley = trolley();
+    let mut desk = door::Desk::open(&trolley.catalogue);
+    desk.enter(2);
+    for rule in [NONE, NONE, 0, 0, 1, 1] {
+        assert_eq!(desk.ran_into(2), Ok(rule));
+        desk.turns(1);
+    }
+    desk.turns(65535);
+    assert_eq!(desk.ran_into(2), Ok(NONE));
+
+    let mut met = Vec::new();
+    for shown in [0, 1, NONE] {
+        let mut record = whole_desk();
+        record.seats[5].broken = shown;
+        for c in 0..=8 {
+            let answer = ran_into_of_both(&record, &desk.board, &trolley.catalogue, c);
+            met.push(answer.map_or_else(|number| number, |_| 0));
+            if c == 5 {
+                assert_eq!(answer, Ok(shown));
+            }
+        }
+    }
+    met.sort_unstable();
+    met.dedup();
+    assert_eq!(met, [0, 30, 31]);
+}
+
+fn ran_into_of_both(
+    record: &DeskRecord,
+    board: &[u8],
+    catalogue: &Catalogue,
+    c: usize,
+) -> Result<u8, u8> {
+    let (sizes, rules) = (catalogue.sizes(), catalogue.rule_list());
+    let answer = door::ran_into(record, board, catalogue, c);
+    let plain = door::plain_desk(record);
+    let checked_answer = checked::ran_into(&plain, board, sizes, rules, c);
+    assert_eq!(answer, checked_answer, "the rule run into {}", c);
+    answer
+}
+
+/// A call of turns, of alternatives, or of the rule run into, that is refused.
 struct Broken {
     fault: &'static str,
     board_length: usize,
@@ -161,6 +213,8 @@ fn number_of_both(call: &Broken) -> u8 {
     let number = answer.expect_err(call.fault);
     let read = alternatives_of_both(&call.desk, &board, &call.catalogue, 9, 9);
     assert_eq!(read, Err(number), "{}: alternatives", call.fault);
+    let ran_into = ran_into_of_both(&call.desk, &board, &call.catalogue, 9);
+    assert_eq!(ran_into, Err(number), "{}: the rule run into", call.fault);
     number
 }
 
@@ -320,6 +374,10 @@ fn broken_records() -> Vec<Broken> {
         edited("an option placed in a closed seat", |desk| {
             desk.seats[0].trial[15] = 0
         }),
+        edited("no rule 2 at work", |desk| desk.seats[5].broken = 2),
+        edited("no rule 254 at work", |desk| desk.seats[5].broken = 254),
+        edited("a rule in a ready seat", |desk| desk.seats[2].broken = 0),
+        edited("a rule in a closed seat", |desk| desk.seats[0].broken = 1),
         edited("a choice in a closed seat", |desk| {
             desk.seats[7].choices[0] = 1
         }),

@@ -27,14 +27,15 @@ pub struct Seat {
     pub masks: [u16; 16],
     pub trial: [u8; 16],
     pub alternatives: [u16; 16],
+    pub broken: u8, // the last rule broken in this job
 }
 
 /// What a step asks of a catalogue.
 pub trait Rules {
     fn sizes(&self) -> &[u8];
 
-    /// Whether what is placed satisfies each rule whose highest-numbered feature is j.
-    fn passed(&self, j: usize, placed: &[u8; 16]) -> bool;
+    /// Of the rules whose highest-numbered feature is j, the first that what is placed breaks: its number in the whole list.
+    fn first_broken(&self, j: usize, placed: &[u8; 16]) -> Option<u8>;
 }
 
 // Inlined, since the versions stand in other modules: calls would cost a step of 200 instructions another 40.
@@ -45,6 +46,7 @@ impl Seat {
         masks: [0; 16],
         trial: [NONE; 16],
         alternatives: [0; 16],
+        broken: NONE,
     };
 
     /// A job under some choices, whose options count as alternatives from the start.
@@ -104,6 +106,7 @@ impl Seat {
             self.start_pair(feature + 1, 0);
         } else {
             self.trial = [NONE; 16];
+            self.broken = NONE;
             self.state = State::Ready;
         }
     }
@@ -152,7 +155,8 @@ impl Seat {
         let sizes = rules.sizes();
         let (i, j) = (usize::from(place.feature), usize::from(place.depth));
         self.trial[j] = place.next;
-        if !rules.passed(j, &self.trial) {
+        if let Some(rule) = rules.first_broken(j, &self.trial) {
+            self.broken = rule;
             return self.give_up(sizes, place);
         }
         if j + 1 == sizes.len() {
