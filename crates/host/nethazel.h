@@ -37,9 +37,9 @@
    Memory. The library keeps nothing and allocates nothing: the caller owns all of it. A desk is a value, handed over and
    handed back; who has two values has two desks. Sizes and rules are lent for reading. The board is lent for writing to
    open, enter, leave, choose, relax and turns, and must then overlap no other memory that is lent to the call; options,
-   alternatives, example and ran_into read it. Pointers are never NULL, also with length 0, and rules are aligned as uint16_t is.
-   Hand desk and board on together, from call to call, with one catalogue: a board that others wrote to shows what they
-   wrote. A desk has a byte of padding at its end, which may hold anything: compare and store desks field by field.
+   alternatives, example and ran_into read it. Pointers are never NULL, also with length 0, and rules are aligned as
+   uint16_t is. Hand desk and board on together, from call to call, with one catalogue: a board that others wrote to shows
+   what they wrote. A desk has a byte of padding at its end, which may hold anything: compare and store desks field by field.
 
    Threads. Nothing is shared between calls but what the caller lends. Two threads may call at the same time with two
    boards; with one board only where neither call writes it. A call needs up to some 12 KB of stack: give a thread 64 KB

@@ -15,12 +15,12 @@ static int failed;
 static int same_seat(const nethazel_seat *s, const nethazel_seat *t)
 {
     return s->state == t->state && s->feature == t->feature && s->option == t->option && s->depth == t->depth &&
-           s->next == t->next && !memcmp(s->choices, t->choices, sizeof s->choices) &&
+           s->next == t->next && s->broken == t->broken && !memcmp(s->choices, t->choices, sizeof s->choices) &&
            !memcmp(s->masks, t->masks, sizeof s->masks) && !memcmp(s->trial, t->trial, sizeof s->trial) &&
            !memcmp(s->alternatives, t->alternatives, sizeof s->alternatives);
 }
 
-/* Field by field, since the records have a byte of padding each. */
+/* Field by field, since a desk has a byte of padding at its end. */
 static int same(nethazel_desk d, nethazel_desk e)
 {
     int all = d.next == e.next;
@@ -37,7 +37,7 @@ static nethazel_desk any_desk(uint8_t state)
     for (int c = 0; c < 8; c++) {
         nethazel_seat *s = &d.seats[c];
         s->state = c == 5 ? state : 2;
-        s->feature = ++n, s->option = ++n, s->depth = ++n, s->next = ++n;
+        s->feature = ++n, s->option = ++n, s->depth = ++n, s->next = ++n, s->broken = ++n;
         for (int f = 0; f < 16; f++) {
             s->choices[f] = ++n, s->trial[f] = ++n;
             s->masks[f] = (uint16_t)(257 * ++n), s->alternatives[f] = (uint16_t)(257 * ++n);
@@ -64,8 +64,41 @@ static void refused_with_20(nethazel_desk d)
     EXPECT(left.number == 20 && left.mask == 0 && left.count == 0);
     nethazel_example_at at = nethazel_example(d, LENT, 9, 9, 9);
     EXPECT(at.number == 20 && at.from == 0 && at.length == 0);
+    nethazel_ran ran = nethazel_ran_into(d, LENT, 9);
+    EXPECT(ran.number == 20 && ran.rule == 0);
     EXPECT(nethazel_turns(d, board, 32767, sizes, 3, rules, 24, 7).number == 1);
     EXPECT(nethazel_turns(d, board, sizeof board, sizes, 0, rules, 24, 7).number == 10);
+    ran = nethazel_ran_into(d, board, 32767, sizes, 0, rules, 24, 9);
+    EXPECT(ran.number == 1 && ran.rule == 0);
+    ran = nethazel_ran_into(d, board, sizeof board, sizes, 0, rules, 24, 9);
+    EXPECT(ran.number == 10 && ran.rule == 0);
+}
+
+/* The rule that a seat last ran into, from any open seat, and number 20 of the byte that keeps it: seat 3 is at work after
+   five turns in `work`, and ready in `ready`; the trolley has two rules. */
+static void rules_run_into(nethazel_desk work, nethazel_desk ready)
+{
+    nethazel_ran ran = nethazel_ran_into(work, LENT, 3);
+    EXPECT(ran.number == 0 && ran.rule == 1 && work.seats[3].broken == 1);
+    ran = nethazel_ran_into(ready, LENT, 3);
+    EXPECT(ran.number == 0 && ran.rule == NETHAZEL_NONE && ready.seats[3].broken == NETHAZEL_NONE);
+    ran = nethazel_ran_into(work, LENT, 8);
+    EXPECT(ran.number == 30 && ran.rule == 0);
+    ran = nethazel_ran_into(work, LENT, 2);
+    EXPECT(ran.number == 31 && ran.rule == 0 && work.seats[2].broken == NETHAZEL_NONE);
+    work.seats[3].broken = 0;
+    EXPECT(nethazel_ran_into(work, LENT, 3).rule == 0);
+    work.seats[3].broken = NETHAZEL_NONE;
+    EXPECT(nethazel_ran_into(work, LENT, 3).rule == NETHAZEL_NONE);
+    work.seats[3].broken = 2;
+    refused_with_20(work);
+    work.seats[3].broken = 254;
+    refused_with_20(work);
+    work.seats[3].broken = 1;
+    work.seats[2].broken = 1;
+    refused_with_20(work);
+    ready.seats[3].broken = 0;
+    refused_with_20(ready);
 }
 
 int main(void)
@@ -88,6 +121,7 @@ int main(void)
     EXPECT(part.made == 5 && part.working && part.desk.next == 4 && part.desk.seats[3].option == 1);
     nethazel_turned ready = nethazel_turns(part.desk, LENT, 65535);
     EXPECT(ready.number == 0 && ready.made == 34 && !ready.working && ready.desk.seats[3].state == NETHAZEL_READY);
+    rules_run_into(part.desk, ready.desk);
     nethazel_example_at at = nethazel_example(ready.desk, LENT, 3, 1, 2);
     EXPECT(at.number == 0 && at.from == 3 * 4096 + 256 + 32 && at.length == 16);
     EXPECT(board[at.from] == 1 && board[at.from + 1] == 2 && board[at.from + 2] == 0 && board[at.from + 3] == NETHAZEL_NONE);

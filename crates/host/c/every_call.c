@@ -23,7 +23,8 @@ static unsigned readings(nethazel_desk desk)
     nethazel_example_at at = nethazel_example(desk, LENT, 0, 0, 0);
     nethazel_left left = nethazel_options(desk, LENT, 0, 0);
     nethazel_left could = nethazel_alternatives(desk, LENT, 0, 0);
-    return at.number + left.mask + could.count + (board[at.from] == NETHAZEL_NONE);
+    nethazel_ran ran = nethazel_ran_into(desk, LENT, 0);
+    return at.number + left.mask + could.count + ran.rule + (board[at.from] == NETHAZEL_NONE);
 }
 
 int main(void)

@@ -1,6 +1,7 @@
 /* The listing program, over the door: on the trolley seat 3 enters, is turned until ready, chooses option 0 of feature 2
-   and is turned again. It prints a line for each feature: its number, the options left ("-" if none), their count. Then
-   it prints the same of what could replace the choice. */
+   and is turned again. It prints a line for each feature: its number, the options left ("-" if none), their count. Before
+   them it prints, after each of its first five turns, the rule that the search last ran into; after them, as of a feature,
+   what could replace the choice. */
 #include <stdio.h>
 #include <stdlib.h>
 #include "nethazel.h"
@@ -36,13 +37,30 @@ static void list(nethazel_desk desk, size_t i)
     print(i, left);
 }
 
+/* Five turns, one by one, each with the rule that the search last ran into ("-" if none). */
+static nethazel_desk watched(nethazel_desk desk)
+{
+    printf("ran into:");
+    for (int turn = 0; turn < 5; turn++) {
+        nethazel_turned turned = nethazel_turns(desk, LENT, 1);
+        done("turns", turned.number);
+        desk = turned.desk;
+        nethazel_ran ran = nethazel_ran_into(desk, LENT, 3);
+        done("ran_into", ran.number);
+        if (ran.rule == NETHAZEL_NONE) printf(" -");
+        else printf(" %u", (unsigned)ran.rule);
+    }
+    printf("\n");
+    return desk;
+}
+
 int main(void)
 {
     nethazel_changed opened = nethazel_open(LENT);
     done("open", opened.number);
     nethazel_changed entered = nethazel_enter(opened.desk, LENT, 3);
     done("enter", entered.number);
-    nethazel_turned ready = nethazel_turns(entered.desk, LENT, 65535);
+    nethazel_turned ready = nethazel_turns(watched(entered.desk), LENT, 65535);
     done("turns", ready.number);
     nethazel_changed chosen = nethazel_choose(ready.desk, LENT, 3, 2, 0);
     done("choose", chosen.number);
