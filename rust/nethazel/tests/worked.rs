@@ -221,6 +221,7 @@ fn a_relaxed_choice_brings_its_options_back() -> Result<(), Refusal> {
     finish(&mut desk)?;
     let shown = desk.alternatives(3, 2)?;
     desk.relax(3, 2)?;
+    assert_eq!(desk.ran_into(3)?, None);
     assert_eq!(desk.seat(3)?.masks(), &[0; 16]);
     assert_eq!(desk.seat(3)?.alternatives(), &[0; 16]);
     finish(&mut desk)?;
