@@ -43,7 +43,7 @@ pub struct HostExample {
 #[repr(C)]
 pub struct HostRan {
     pub number: u8,
-    pub rule: u8, // 255 for none
+    pub rule: u8, // 255 for none; 0 where the call is refused
 }
 
 #[repr(C)]

@@ -1,7 +1,7 @@
 -- The small words (`Words` of the builds, the search and the runs).
 use Rattle.builds.proofs.Words.{satisfied, written, one-to, counting, adding, writing}
 use Rattle.builds.proofs.Alternatives.{alternative-iff}
-use Rattle.search.proofs.Words.{bit, working}
+use Rattle.search.proofs.Words.{bit, working, numbered}
 use Rattle.runs.proofs.Words.{own, clinic, seated, own-calls, asked}
 use Rattle.promises.specs.Words.{Words}
 
@@ -9,6 +9,7 @@ pub words : Words
 words = record {
   satisfied = satisfied;
   alternative = alternative-iff;
+  numbered = numbered;
   written = written;
   own = own;
   clinic = clinic;

@@ -16,6 +16,7 @@ use Rattle.search.specs.declared.State.{State}
 use Rattle.search.specs.declared.State.the-variants.{AtWork}
 use Rattle.search.specs.Bits.{hasBit}
 use Rattle.search.specs.Look.{isAtWork}
+use Rattle.search.specs.StepRules.{Numbered}
 use Rattle.search.specs.Clinic.{noSeat}
 use Rattle.runs.specs.declared.Desk.{Desk}
 use Rattle.runs.specs.declared.Asking.{Asking}
@@ -31,6 +32,9 @@ pub record Words : Type 0 where
   pub alternative : (catalogue : Catalogue) (choices : List ℕ) (i a : ℕ) → Alternative catalogue choices i a
       ↔ ((build : List ℕ) × IsBuild catalogue [] build × ((f : ℕ) → f < length (catalogue .sizes) → (f ≡ i → ⊥)
       → (getD choices f 255 ≡ 255 → ⊥) → optionAt build f ≡ getD choices f 255) × (optionAt build i ≡ a))
+  -- rule n of a list, counted from 0: as many stand before it
+  pub numbered : (rules : List Rule) (n : ℕ) (rule : Rule) → Numbered rules n rule
+      ↔ ((before after : List Rule) × (rules ≡ before ++ rule ∷ after) × (length before ≡ n))
   -- arity, row count, features, rows
   pub written : (rule : Rule)
       → ruleWritten rule ≡ length (rule .features) ∷ length (rule .rows) ∷ (rule .features ++ flatten (rule .rows))

@@ -100,7 +100,7 @@ steps catalogue zero clinic = clinic
 steps catalogue (suc n) clinic = steps catalogue n (step catalogue clinic)
 
 -- Posting a job under some choices: masks emptied, but for the bits of the options in force among the alternatives, share
--- filled with 255, pair (0, 0).
+-- filled with 255, no rule broken, pair (0, 0).
 unfoldable pub posted : List ℕ → List ℕ → Clinic
 posted sizes choices = record { seat = freshSeat (started sizes choices 0 0) choices; share = emptyShare }
 

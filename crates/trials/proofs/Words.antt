@@ -11,6 +11,7 @@ use Rattle.builds.specs.Format.{ruleWritten}
 use Rattle.search.specs.declared.Place.{Place}
 use Rattle.search.specs.declared.State.the-variants.{AtWork}
 use Rattle.search.specs.Look.{isAtWork}
+use Rattle.search.specs.StepRules.{Numbered}
 use Rattle.search.specs.Clinic.{Clinic, closedSeat}
 use Rattle.search.specs.Trolley.{trolley}
 use Rattle.runs.specs.declared.Asking.the-variants.{Enter}
@@ -34,6 +35,9 @@ module _ (demand : Words) where
   row-found : List·Memᴰ {A = List ℕ} (2 ∷ 1 ∷ []) ((0 ∷ 1 ∷ []) ∷ (2 ∷ 1 ∷ []) ∷ [])
   unfolding twoRows computing
   row-found = demand .satisfied (1 ∷ 2 ∷ 0 ∷ []) twoRows .0 refl
+
+  second-of-two : Numbered (twoRows ∷ twoRows ∷ []) 1 twoRows
+  second-of-two = demand .numbered (twoRows ∷ twoRows ∷ []) 1 twoRows .1 (twoRows ∷ [], [], refl, refl)
 
   share-of-3 : clinicAt (moment trolley board []) 3 .share ≡ take 4096 (drop 12288 (moment trolley board [] .board))
   share-of-3 =
@@ -75,6 +79,9 @@ module _ (demand : Words) where
 
 pub one-of-the-rows : List·Memᴰ {A = List ℕ} (2 ∷ 1 ∷ []) ((0 ∷ 1 ∷ []) ∷ (2 ∷ 1 ∷ []) ∷ [])
 one-of-the-rows = row-found proved-words
+
+pub rule-1 : Numbered (twoRows ∷ twoRows ∷ []) 1 twoRows
+rule-1 = second-of-two proved-words
 
 pub share-begins : clinicAt (moment trolley board []) 3 .share ≡ take 4096 (drop 12288 (moment trolley board [] .board))
 share-begins = share-of-3 proved-words

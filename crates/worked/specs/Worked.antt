@@ -180,4 +180,18 @@ cases =
           ∷ 1 ∷ 2 ∷ 2 ∷ 255 ∷ [])
           ∷ (0 ∷ []) ∷ (3 ∷ 3 ∷ 4 ∷ 4 ∷ []) ∷ (14 ∷ []) ∷ (2 ∷ []) ∷ (1 ∷ []) ∷ [];
     }
+    -- P9's catalogue: every pair ends with a step that fails its test, the last of them 11, against rule 0; the seat is then ready
+    -- and has none
+    ∷ record {
+      number = 17;
+      given = rulesKept allUnequal 38 ∷ lengths allUnequal noChoices 37 38;
+      expected = (255
+          ∷ 255 ∷ 0 ∷ 0 ∷ 1 ∷ 2
+          ∷ 2 ∷ 2 ∷ 2 ∷ 1 ∷ 0
+          ∷ 0 ∷ 0 ∷ 0 ∷ 0 ∷ 2 ∷ 1
+          ∷ 1 ∷ 1 ∷ 1 ∷ 2 ∷ 2 ∷ 0
+          ∷ 0 ∷ 0 ∷ 0 ∷ 1 ∷ 1 ∷ 1 ∷ 2 ∷ 0
+          ∷ 0 ∷ 0 ∷ 0 ∷ 2 ∷ 2 ∷ 2 ∷ 1 ∷ 255 ∷ [])
+          ∷ (5 ∷ 5 ∷ 6 ∷ 6 ∷ 8 ∷ 8 ∷ []) ∷ (38 ∷ []) ∷ (2 ∷ []) ∷ (1 ∷ []) ∷ [];
+    }
     ∷ []
