@@ -1,5 +1,5 @@
--- The rules of each feature, noted in one walk over the list: in a row of 64 places where each begins, sixteen rows on its
--- number. For each feature what is noted, followed by that of the rules that are left, is that of all.
+-- The rules of each feature, noted in one walk over the list: where each begins in a row of 64 places, and its number in such
+-- a row after the counts. For each feature what is noted, followed by that of the rules that are left, is that of all.
 use Prim.Native.Nat.{ℕ, zero, suc, _+_, _-_, _*_, _≤_, _<_}
 use mathlib.Core.Path.{_≡_, refl, sym, ap, _∙_}
 use mathlib.Core.Bool.{Bool, true, false, cond}
@@ -30,25 +30,25 @@ inRow row count places = take count (drop (row * 64) places)
 pub record Noted (rules places counts : List ℕ) (place number : ℕ) : Type 0 where
   pub left : ℕ
   pub within : place ≤ length rules
-  pub room : length places ≡ 2048
-  pub each : length counts ≡ 16
+  pub room : length places ≡ 1024
+  pub each : length counts ≡ 1040
   pub whole-rest : wholeRules left (drop place rules) ≡ true
   pub few-rules : number + left ≤ 64
   pub few : (j : ℕ) → j < 16 → getD counts j 0 + left ≤ 64
   pub starts-so-far : (j : ℕ) → j < 16
       → inRow j (getD counts j 0) places ++ map begins (testedFrom left rules place number j) ≡ map begins (testedAt rules j)
   pub numbers-so-far : (j : ℕ) → j < 16
-      → inRow (16 + j) (getD counts j 0) places ++ map numbered (testedFrom left rules place number j) ≡ map numbered (testedAt rules j)
+      → inRow j (getD counts j 0) (drop 16 counts) ++ map numbered (testedFrom left rules place number j) ≡ map numbered (testedAt rules j)
 
-pub none-noted : (rules places counts : List ℕ) → wholeRules 64 rules ≡ true → length places ≡ 2048 → counts ≡ replicate 16 0
+pub none-noted : (rules places counts : List ℕ) → wholeRules 64 rules ≡ true → length places ≡ 1024 → counts ≡ replicate 1040 0
     → Noted rules places counts 0 0
 none-noted rules places counts e room zeros =
-    let nothing : (j : ℕ) → j < 16 → getD counts j 0 ≡ 0 = λ (j : ℕ) h. rw zeros (getD-replicate 16 j 0 0 h) in
+    let nothing : (j : ℕ) → j < 16 → getD counts j 0 ≡ 0 = λ (j : ℕ) h. rw zeros (getD-replicate 1040 j 0 0 (omega arith)) in
     record {
       left = 64;
       within = omega arith;
       room = room;
-      each = rw zeros (length-replicate {A = ℕ} 16 0);
+      each = rw zeros (length-replicate {A = ℕ} 1040 0);
       whole-rest = e;
       few-rules = omega arith;
       few = λ (j : ℕ) h. omega (arith, nothing j h);
@@ -138,14 +138,14 @@ module _ {rules places counts : List ℕ} {place number : ℕ} (n : Noted rules 
   after j = testedFrom (n .left - 1) rules next-place (suc number) j
 
   -- what a feature's row holds then, followed by what is left, is the same as before
-  abbrev Same : (ℕ × ℕ → ℕ) → ℕ → List ℕ → List ℕ → ℕ → Type 0
-  Same part row more noted j =
-      inRow row (getD noted j 0) more ++ map part (after j) ≡ inRow row (getD counts j 0) places ++ map part (before j)
+  abbrev Same : (ℕ × ℕ → ℕ) → List ℕ → List ℕ → List ℕ → ℕ → Type 0
+  Same part rows more noted j =
+      inRow j (getD noted j 0) more ++ map part (after j) ≡ inRow j (getD counts j 0) rows ++ map part (before j)
 
   -- the walk goes on to the next rule, if that is so of each row
   go-on : (more noted : List ℕ) → length more ≡ length places → length noted ≡ length counts
       → ((j : ℕ) → j < 16 → getD noted j 0 ≤ getD counts j 0 + 1)
-      → ((j : ℕ) → j < 16 → Same begins j more noted j × Same numbered (16 + j) more noted j)
+      → ((j : ℕ) → j < 16 → Same begins places more noted j × Same numbered (drop 16 counts) (drop 16 noted) noted j)
       → Noted rules more noted next-place (suc number)
   go-on more noted room each few same =
       record {
@@ -165,71 +165,74 @@ module _ {rules places counts : List ℕ} {place number : ℕ} (n : Noted rules 
 
   module _ (feature count : ℕ) (known : feature < 16) (count-is : count ≡ getD counts feature 0)
       (is-highest : highest (featuresRead (drop place rules)) ≡ feature) where
-    abbrev half : List ℕ
-    half = set places (feature * 64 + count) place
-
     abbrev more : List ℕ
-    more = set half ((16 + feature) * 64 + count) number
+    more = set places (feature * 64 + count) place
+
+    abbrev half : List ℕ
+    half = set counts (16 + feature * 64 + count) number
 
     abbrev noted : List ℕ
-    noted = set counts feature (count + 1)
+    noted = set half feature (count + 1)
 
     low : count < 64
     low = omega (arith, count-is, below-64 feature known)
 
-    half-length : length half ≡ 2048
-    half-length = length-set places (feature * 64 + count) place ∙ n .room
+    half-length : length half ≡ 1040
+    half-length = length-set counts (16 + feature * 64 + count) number ∙ n .each
 
     count-here : getD noted feature 0 ≡ suc count
-    count-here = getD-set-same counts feature (count + 1) 0 (omega (arith, n .each)) ∙ add-one count
+    count-here = getD-set-same half feature (count + 1) 0 (omega (arith, half-length)) ∙ add-one count
 
-    count-other : (j : ℕ) → (j ≡ feature → ⊥) → getD noted j 0 ≡ getD counts j 0
-    count-other j e = getD-set-other counts feature j (count + 1) 0 e
+    count-other : (j : ℕ) → j < 16 → (j ≡ feature → ⊥) → getD noted j 0 ≡ getD counts j 0
+    count-other j l e =
+        getD-set-other half feature j (count + 1) 0 e
+        ∙ getD-set-other counts (16 + feature * 64 + count) j number 0 (λ same. absurd (omega arith))
 
-    few-by : (j : ℕ) (same : Bool) → eqb j feature ≡ same → getD noted j 0 ≤ getD counts j 0 + 1
-    few-by j true t = let e : j ≡ feature = eqb-true j feature t in rw (e, count-here, count-is) (omega arith)
-    few-by j false t = rw (count-other j (eqb-false j feature t)) (omega arith)
+    few-by : (j : ℕ) (same : Bool) → j < 16 → eqb j feature ≡ same → getD noted j 0 ≤ getD counts j 0 + 1
+    few-by j true l t = let e : j ≡ feature = eqb-true j feature t in rw (e, count-here, count-is) (omega arith)
+    few-by j false l t = rw (count-other j l (eqb-false j feature t)) (omega arith)
 
     left-here : before feature ≡ (place, number) ∷ after feature
     left-here = rw (eq-eqb (highest (featuresRead (drop place rules))) feature is-highest) at (tested-step (n .left) rules place number feature (here .some-left) h)
 
+    -- the rows of numbers, after the counts
+    numbers-then : drop 16 noted ≡ set (drop 16 counts) (feature * 64 + count) number
+    numbers-then =
+        let past : 16 + feature * 64 + count ≡ 16 + (feature * 64 + count) = omega arith in
+        drop-set-lt 16 half feature (count + 1) known
+        ∙ ap (λ (k : ℕ). drop 16 (set counts k number)) past
+        ∙ drop-set-add 16 counts (feature * 64 + count) number
+
     row-starts : inRow feature (suc count) more ≡ inRow feature count places ++ place ∷ []
-    row-starts =
-        others-stay half (16 + feature) feature count (suc count) number (λ e. absurd (omega arith)) low (omega (arith, low))
-        ∙ one-more places feature count place (omega (arith, n .room, low))
+    row-starts = one-more places feature count place (omega (arith, n .room, low))
 
-    row-numbers : inRow (16 + feature) (suc count) more ≡ inRow (16 + feature) count places ++ number ∷ []
+    row-numbers : inRow feature (suc count) (drop 16 noted) ≡ inRow feature count (drop 16 counts) ++ number ∷ []
     row-numbers =
-        one-more half (16 + feature) count number (omega (arith, half-length, low))
-        ∙ ap (λ (row : List ℕ). row ++ number ∷ [])
-        (others-stay places feature (16 + feature) count count place (λ e. absurd (omega arith)) low (omega (arith, low)))
+        ap (inRow feature (suc count)) numbers-then
+        ∙ one-more (drop 16 counts) feature count number (omega (arith, length-drop 16 counts, n .each, low))
 
-    same-here : Same begins feature more noted feature × Same numbered (16 + feature) more noted feature
+    same-here : Same begins places more noted feature × Same numbered (drop 16 counts) (drop 16 noted) noted feature
     same-here = (
       rw (count-here, row-starts, ← count-is, left-here, append-assoc) refl,
       rw (count-here, row-numbers, ← count-is, left-here, append-assoc) refl,
     )
 
-    stays : (row j : ℕ) → row < 32 → (row ≡ feature → ⊥) → (row ≡ 16 + feature → ⊥) → j < 16 → inRow row (getD counts j 0) more ≡ inRow row (getD counts j 0) places
-    stays row j l a b k =
-        let few : getD counts j 0 ≤ 64 = omega (arith, n .few j k) in
-        others-stay half (16 + feature) row count (getD counts j 0) number b low few
-        ∙ others-stay places feature row count (getD counts j 0) place a low few
-
-    same-by : (j : ℕ) (same : Bool) → j < 16 → eqb j feature ≡ same → Same begins j more noted j × Same numbered (16 + j) more noted j
+    same-by : (j : ℕ) (same : Bool) → j < 16 → eqb j feature ≡ same
+        → Same begins places more noted j × Same numbered (drop 16 counts) (drop 16 noted) noted j
     same-by j true l t = rw (eqb-true j feature t) same-here
     same-by j false l t =
         let e : j ≡ feature → ⊥ = eqb-false j feature t in
-        let rest = not-here j (λ s. e (sym s ∙ is-highest)) in (
-          rw (count-other j e, rest, stays j j (omega arith) e (λ s. absurd (omega arith)) l) refl,
-          rw (count-other j e, rest, stays (16 + j) j (omega arith) (λ s. absurd (omega arith)) (λ s. e (omega arith)) l) refl,
+        let rest = not-here j (λ s. e (sym s ∙ is-highest)) in
+        let few : getD counts j 0 ≤ 64 = omega (arith, n .few j l) in (
+          rw (count-other j l e, rest, others-stay places feature j count (getD counts j 0) place e low few) refl,
+          rw (count-other j l e, rest, numbers-then, others-stay (drop 16 counts) feature j count (getD counts j 0) number e low few) refl,
         )
 
     pub note : Noted rules more noted next-place (suc number)
     note =
-        go-on more noted (length-set half ((16 + feature) * 64 + count) number ∙ length-set places (feature * 64 + count) place)
-        (length-set counts feature (count + 1))
-        (λ (j : ℕ) l. few-by j (eqb j feature) refl)
+        go-on more noted (length-set places (feature * 64 + count) place)
+        (length-set half feature (count + 1) ∙ length-set counts (16 + feature * 64 + count) number)
+        (λ (j : ℕ) l. few-by j (eqb j feature) l refl)
         (λ (j : ℕ) l. same-by j (eqb j feature) l refl)
 
   -- a rule whose highest feature is none of the sixteen is tested nowhere
@@ -248,6 +251,7 @@ all-noted {rules} {places} {counts} {place} {number} n h =
       are-starts = λ (j : ℕ) l.
           sym (rw (tested-end (n .left) rules place number j h) (append-nil (inRow j (getD counts j 0) places))) ∙ n .starts-so-far j l;
       are-numbers = λ (j : ℕ) l.
-          sym (rw (tested-end (n .left) rules place number j h) (append-nil (inRow (16 + j) (getD counts j 0) places)))
+          ap (take (getD counts j 0)) (sym (drop-drop (j * 64) 16 counts))
+          ∙ sym (rw (tested-end (n .left) rules place number j h) (append-nil (inRow j (getD counts j 0) (drop 16 counts))))
           ∙ n .numbers-so-far j l;
     }

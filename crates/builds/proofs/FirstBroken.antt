@@ -1,4 +1,4 @@
--- The rule that a test names is one of the list, and so its number is below 64.
+-- The rule that a test names is one of the list, which has at most 64.
 use Prim.Native.Nat.{ℕ, zero, suc, _≤_, _<_}
 use mathlib.Core.Path.{_≡_, refl}
 use mathlib.Core.Bool.{Bool, true, false, cond}
@@ -37,7 +37,3 @@ few-read (suc n) list = go (isEmpty list) (few-read n (drop (width list) list))
 pub few-rules : (catalogue : Catalogue) → length (rulesOf catalogue) ≤ 64
 unfolding rulesOf
 few-rules catalogue = few-read 64 (catalogue .list)
-
--- the number that a test answers, of a rule list as it is read
-pub number-below-64 : (list placed : List ℕ) (j n : ℕ) → firstBroken (rulesRead 64 list) j placed ≡ some n → n < 64
-number-below-64 list placed j n e = omega (arith, named-below j placed (rulesRead 64 list) n e, few-read 64 list)

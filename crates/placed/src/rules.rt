@@ -20,7 +20,7 @@ pub enum Tested {
 
 // The test of what is placed at feature j, against each rule whose highest-numbered feature is j. Rules are numbered through
 // the whole list, so the number that is answered was noted beside where the rule begins.
-pub fn test(rules: &[u16], j: usize, starts: &[u16], numbers: &[u16], placed: &[u8]) -> Tested
+pub fn test(rules: &[u16], j: usize, starts: &[u16], numbers: &[u8], placed: &[u8]) -> Tested
     requires { ⌜ wholeRules 64 (now rules) ≡ true ⌝ }
     requires { ⌜ (now starts ≡ startsAt (now rules) j) × (now numbers ≡ numbersAt (now rules) j) ⌝ }
     requires { ⌜ FeaturesBelow (length (now placed)) (rulesRead 64 (now rules)) ⌝ }
@@ -30,22 +30,23 @@ pub fn test(rules: &[u16], j: usize, starts: &[u16], numbers: &[u16], placed: &[
     while i < starts.len() {
         let place = wide(starts[i]);
         if !satisfied(&rules[place..], placed) {
-            return Tested::Broke((numbers[i] % 256) as u8); // a number is below 64
+            return Tested::Broke(numbers[i]);
         }
         i += 1;
     }
     Tested::Passed
 }
 
-// Notes which rules are tested at each feature, in one walk over the list: 64 places a feature for where they begin, then
-// as many for their numbers, of which `counts` are used. Both are lent, so that they are written where they are read.
-pub fn starts_of(rules: &[u16], places: &mut [u16; 2048], counts: &mut [u8; 16])
+// Notes which rules are tested at each feature, in one walk over the list: where they begin, 64 places a feature; how many
+// they are, sixteen counts; and after these their numbers, 64 a feature again. Both are lent, so that they are written where
+// they are read.
+pub fn starts_of(rules: &[u16], places: &mut [u16; 1024], counts: &mut [u8; 1040])
     requires { ⌜ (wholeRules 64 (now rules) ≡ true) × (length (now rules) ≤ 8192) ⌝ }
-    requires { ⌜ (length (now places) ≡ 2048) × (now counts ≡ replicate 16 0) ⌝ }
+    requires { ⌜ (length (now places) ≡ 1024) × (now counts ≡ replicate 1040 0) ⌝ }
     ensures { λ r. ⌜ AllStarts (now (rules .entry)) (now (places .exit)) (now (counts .exit)) ⌝ }
 {
     let mut place = 0;
-    let mut number = 0u16;
+    let mut number = 0u8;
     while place < rules.len() {
         let rest = &rules[place..];
         let k = wide(rest[0]);
@@ -55,7 +56,7 @@ pub fn starts_of(rules: &[u16], places: &mut [u16; 2048], counts: &mut [u8; 16])
         if feature < 16 {
             let count = counts[feature] as usize;
             places[feature * 64 + count] = (place % 65536) as u16; // a place is below 8,192
-            places[(16 + feature) * 64 + count] = number;
+            counts[16 + feature * 64 + count] = number;
             counts[feature] = ((count + 1) % 256) as u8; // a count is at most 64
         }
         place += body + k * m;

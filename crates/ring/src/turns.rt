@@ -32,8 +32,8 @@ pub fn make_turns(desk: Desk, board: &mut [u8], sizes: &[u8], rules: &[u16], w: 
         (done (catalogueOf (now (sizes .entry)) (now (rules .entry))) (turns w) (roomOf desk (now (board .entry))))
         r (now (board .exit)) ⌝ }
 {
-    let mut places = [0u16; 2048];
-    let mut counts = [0u8; 16];
+    let mut places = [0u16; 1024];
+    let mut counts = [0u8; 1040];
     placed::starts_of(rules, &mut places, &mut counts);
     let edge = arrays::edge();
     let mut seats = desk.seats;

@@ -121,12 +121,12 @@ fn tested_at(
 {
     let count = byte(counts[j]);
     let starts = j * 64;
-    let numbers = (16 + j) * 64;
+    let numbers = 16 + starts;
     placed::test(
         rules,
         j,
         &places[starts..starts + count],
-        &places[numbers..numbers + count],
+        &counts[numbers..numbers + count],
         placed,
     )
 }

@@ -60,11 +60,11 @@ unfoldable pub firstOf : List ℕ → List (ℕ × ℕ) → List ℕ → Option 
 firstOf list [] placed = none
 firstOf list (t ∷ ts) placed = cond (satisfies placed (ruleRead (drop (t .0) list))) (firstOf list ts placed) (some (t .1))
 
--- 64 numbers for each of 16 features: where the rules begin that are tested there; then, in the same way, the numbers of
--- these rules; and how many there are
+-- 64 numbers for each of 16 features: where the rules begin that are tested there; how many there are, and after these counts,
+-- 64 numbers for each feature again, the rules' own numbers
 pub record AllStarts (rules places counts : List ℕ) : Type 0 where
-  pub room : length places ≡ 2048
-  pub each : length counts ≡ 16
+  pub room : length places ≡ 1024
+  pub each : length counts ≡ 1040
   pub few : (j : ℕ) → j < 16 → getD counts j 0 ≤ 64
   pub are-starts : (j : ℕ) → j < 16 → take (getD counts j 0) (drop (j * 64) places) ≡ startsAt rules j
-  pub are-numbers : (j : ℕ) → j < 16 → take (getD counts j 0) (drop ((16 + j) * 64) places) ≡ numbersAt rules j
+  pub are-numbers : (j : ℕ) → j < 16 → take (getD counts j 0) (drop (16 + j * 64) counts) ≡ numbersAt rules j

@@ -120,29 +120,26 @@ mul-places-2 c = omega (arith, count-low c)
 element-write-places : tie.Need-element-write-places Inv-loop μ-loop
 element-write-places c = omega (arith, count-low c)
 
-add-places-2 : tie.Need-add-places-2 Inv-loop μ-loop
-add-places-2 c = search needs
-
-mul-places-3 : tie.Need-mul-places-3 Inv-loop μ-loop
-mul-places-3 c = search needs
-
-add-places-3 : tie.Need-add-places-3 Inv-loop μ-loop
-add-places-3 c = omega (arith, count-low c)
-
-mul-places-4 : tie.Need-mul-places-4 Inv-loop μ-loop
-mul-places-4 c = omega (arith, count-low c)
-
-element-write-places-2 : tie.Need-element-write-places-2 Inv-loop μ-loop
-element-write-places-2 c = omega (arith, count-low c)
+mul-counts : tie.Need-mul-counts Inv-loop μ-loop
+mul-counts c = search needs
 
 add-counts : tie.Need-add-counts Inv-loop μ-loop
-add-counts c = omega (arith, count-low c)
+add-counts c = search needs
+
+add-counts-2 : tie.Need-add-counts-2 Inv-loop μ-loop
+add-counts-2 c = omega (arith, count-low c)
+
+element-write-counts : tie.Need-element-write-counts Inv-loop μ-loop
+element-write-counts c = omega (arith, count-low c)
+
+add-counts-3 : tie.Need-add-counts-3 Inv-loop μ-loop
+add-counts-3 c = omega (arith, count-low c)
 
 cast-counts : tie.Need-cast-counts Inv-loop μ-loop
 cast-counts c = search needs
 
-element-write-counts : tie.Need-element-write-counts Inv-loop μ-loop
-element-write-counts c = search needs
+element-write-counts-2 : tie.Need-element-write-counts-2 Inv-loop μ-loop
+element-write-counts-2 c = search needs
 
 next-place : (c : tie.Joined1 Inv-loop μ-loop)
     → c .before .before .before .before .before .before .before .before .before .loop .place + (2 + c .before .before .before .before .before .wide .result + c .before .before .before .before .before .wide .result * c .before .before .before .wide2 .result)
@@ -215,14 +212,13 @@ starts-of-spec =
     add-places
     mul-places-2
     element-write-places
-    add-places-2
-    mul-places-3
-    add-places-3
-    mul-places-4
-    element-write-places-2
+    mul-counts
     add-counts
-    cast-counts
+    add-counts-2
     element-write-counts
+    add-counts-3
+    cast-counts
+    element-write-counts-2
     mul-place
     add-place
     add-place-2

@@ -14,7 +14,6 @@ use Rattle.builds.specs.inner.Starts.{wholeRule, EachBelow, testedAt, firstOf}
 use Rattle.builds.proofs.ListWalks.{left-lent}
 use Rattle.builds.proofs.WholeRule.{whole}
 use Rattle.builds.proofs.Starts.{first-tested, first-step, first-end, start-whole, start-below}
-use Rattle.builds.proofs.FirstBroken.{number-below-64}
 use borrow.Author.Needs.{needs}
 use Rattle.placed.proofs.rules.test.Statement.{statement}
 use Rattle.placed.proofs.rules.test.Tie as tie
@@ -138,25 +137,17 @@ rule-tested c =
     let answer = rw (left-lent, place-read (c .before .before)) at (c .satisfied .ensures) in
     rw answer (first-step (rules-lent at) (tested at) (placed-lent at) (at .loop .i) (one-here (c .before .before .before .before)))
 
-mul-t17 : tie.Need-mul-t17 Inv-loop μ-loop
-mul-t17 c = search needs
-
-shared-slice-read-t19 : tie.Need-shared-slice-read-t19 Inv-loop μ-loop
-shared-slice-read-t19 c =
+shared-slice-read-t18 : tie.Need-shared-slice-read-t18 Inv-loop μ-loop
+shared-slice-read-t18 c =
     let turn = c .before .before .before .before .before .before in
     omega (arith, one-here turn, noted-many numbered (tested (turn .before)) (turn .before .before .before .before .before .before .pre .1 .0 .1))
-
-cast-t21 : tie.Need-cast-t21 Inv-loop μ-loop
-cast-t21 c = search needs
 
 returns : tie.Need-returns Inv-loop μ-loop
 returns c =
     let at = c .before .before .before .before .before .before .before in
     let broken : some (here at .1) ≡ first-of-all at =
     sym (rw (not-true (c .before .before .satisfied .result) (c .before .if1 .taken)) at (rule-tested (c .before .before))) ∙ left-is-all at in
-    let low = number-below-64 (rules-lent at) (placed-lent at) (feature at) (here at .1) (sym broken) in
-    let read = noted-nth numbered (tested at) (at .before .before .before .before .before .pre .1 .0 .1) (at .loop .i) in
-    ap some (omega (arith, read, low)) ∙ broken
+    ap some (noted-nth numbered (tested at) (at .before .before .before .before .before .pre .1 .0 .1) (at .loop .i)) ∙ broken
 
 add-i : tie.Need-add-i Inv-loop μ-loop
 add-i c = search needs
@@ -190,9 +181,7 @@ test-spec =
     part-satisfied-start
     part-satisfied-end
     satisfied-requires
-    mul-t17
-    shared-slice-read-t19
-    cast-t21
+    shared-slice-read-t18
     returns
     add-i
     loop-less

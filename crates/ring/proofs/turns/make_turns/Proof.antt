@@ -64,7 +64,7 @@ starts-of-requires c κs =
     let start = c .before .before .before .before .before in
     let catalogue : Catalogue = catalogueOf (start .args .sizes .now) (start .args .rules .now) in (
       (fault-whole catalogue (start .pre .0 .1), fault-zero catalogue (start .pre .0 .1) .list-fits),
-      (length-replicate {A = ℕ} 2048 0, refl),
+      (length-replicate {A = ℕ} 1024 0, refl),
     )
 
 edge-requires : tie.Need-edge-requires Inv-loop μ-loop

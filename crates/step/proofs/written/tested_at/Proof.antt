@@ -21,9 +21,6 @@ mul-starts c = search needs
 add-numbers : tie.Need-add-numbers
 add-numbers c = search needs
 
-mul-numbers : tie.Need-mul-numbers
-mul-numbers c = search needs
-
 add-test : tie.Need-add-test
 add-test c = search needs
 
@@ -45,9 +42,6 @@ part-test-end c =
 add-test-2 : tie.Need-add-test-2
 add-test-2 c = search needs
 
-mul-test-2 : tie.Need-mul-test-2
-mul-test-2 c = search needs
-
 sub-test-2 : tie.Need-sub-test-2
 sub-test-2 c = search needs
 
@@ -58,7 +52,7 @@ part-test-end-2 : tie.Need-part-test-end-2
 part-test-end-2 c =
     let start = c .before .before .before .before .before .before .before .before in
     let starts = start .pre .0 .1 in
-    omega (arith, starts .room, starts .few (start .args .j) (start .pre .1 .0), c .before .byte .ensures .0)
+    omega (arith, starts .each, starts .few (start .args .j) (start .pre .1 .0), c .before .byte .ensures .0)
 
 test-requires : tie.Need-test-requires
 test-requires c κs =
@@ -67,7 +61,7 @@ test-requires c κs =
     let j = start .args .j in
     let catalogue = catalogueOf (start .args .sizes .now) (start .args .rules .now) in
     let span : j * 64 + count - j * 64 ≡ count = omega arith in
-    let span-2 : (16 + j) * 64 + count - (16 + j) * 64 ≡ count = omega arith in
+    let span-2 : 16 + j * 64 + count - (16 + j * 64) ≡ count = omega arith in
     let starts = start .pre .0 .1 in (
       fault-whole catalogue (start .pre .0 .0),
       (
@@ -91,14 +85,12 @@ tested-at-spec =
     byte-requires
     mul-starts
     add-numbers
-    mul-numbers
     add-test
     mul-test
     sub-test
     part-test-start
     part-test-end
     add-test-2
-    mul-test-2
     sub-test-2
     part-test-start-2
     part-test-end-2
