@@ -114,7 +114,8 @@ fn tested_at(
     places: &[u16],
     counts: &[u8],
 ) -> Tested
-    requires { ⌜ (faultOf (catalogueOf (now sizes) (now rules)) ≡ 0) × AllStarts (now rules) (now places) (now counts) ⌝ }
+    requires { ⌜ (faultOf (catalogueOf (now sizes) (now rules)) ≡ 0)
+        × AllStarts (now rules) (now places) (now counts) ⌝ }
     requires { ⌜ (j < 16) × (length (now placed) ≡ 16) ⌝ }
     ensures { λ r. ⌜ ruleBroken r
         ≡ firstBroken (rulesOf (catalogueOf (now (sizes .entry)) (now (rules .entry)))) j (now (placed .entry)) ⌝ }
