@@ -1,14 +1,14 @@
--- What one turn of each walk over features, options and rows changes: the definition of what is left splits into its
--- first entry and the definition of the rest, and at the end of the walk nothing is left.
+-- What one turn of each walk over features, options and rows changes: the definition of what is left splits into one
+-- entry and the definition of the rest, and at the end of the walk nothing is left.
 use Prim.Native.Nat.{ℕ, zero, suc, _+_, _*_, _≤_, _<_, max}
-use mathlib.Core.Path.{_≡_, refl}
-use mathlib.Core.Bool.{Bool, true, false}
+use mathlib.Core.Path.{_≡_, refl, sym, _∙_}
+use mathlib.Core.Bool.{Bool, true, false, and-false}
 use mathlib.Core.List.{List, [], _∷_, map}
 use native.Mathlib.Numerals.{add-one}
 use native.Mathlib.Nat.{mul-suc, not-suc-le-zero, le-of-suc-le-suc}
 use native.Mathlib.Omega.{arith}
 use lib.ListN.{length, getD, take, drop, length-take, length-drop, drop-of-length-le}
-use lib.Seq.{drop-cons, drop-drop}
+use lib.Seq.{drop-cons, drop-drop, take-all}
 use borrow.Author.Tests.{eq-eqb, ne-eqb}
 use Rattle.builds.specs.Rule.{highest, optionAt, matches, someRow}
 use Rattle.builds.specs.Catalogue.{rowsRead}
@@ -27,24 +27,46 @@ pub highest-end : (l : List ℕ) (i : ℕ) → length l ≤ i → highest (drop 
 unfolding highest
 highest-end l i h = rw (drop-of-length-le l h)
 
--- what is left of a row, and the options placed at what is left of the features
+-- what is left of a row that is compared from its last position back, and the options placed at what is left of the features
 pub matches-step : (row features placed : List ℕ) (i : ℕ) → i < length row → i < length features
     → getD row i 0 ≡ optionAt placed (getD features i 0)
-    → matches (drop i row) (map (optionAt placed) (drop i features))
-    ≡ matches (drop (i + 1) row) (map (optionAt placed) (drop (i + 1) features))
+    → matches (take (suc i) row) (map (optionAt placed) (take (suc i) features))
+    ≡ matches (take i row) (map (optionAt placed) (take i features))
 unfolding matches
-matches-step row features placed i h k e = rw (add-one i, drop-cons row i 0, drop-cons features i 0, eq-eqb _ _ e)
+matches-step [] features placed i h k e = absurd (not-suc-le-zero h)
+matches-step (r ∷ row) [] placed i h k e = absurd (not-suc-le-zero k)
+matches-step (r ∷ row) (f ∷ features) placed zero h k e = rw (eq-eqb _ _ e)
+matches-step (r ∷ row) (f ∷ features) placed (suc i) h k e =
+    rw (matches-step row features placed i (le-of-suc-le-suc h) (le-of-suc-le-suc k) e)
 
 pub matches-stop : (row features placed : List ℕ) (i : ℕ) → i < length row → i < length features
     → (getD row i 0 ≡ optionAt placed (getD features i 0) → ⊥)
-    → matches (drop i row) (map (optionAt placed) (drop i features)) ≡ false
+    → matches (take (suc i) row) (map (optionAt placed) (take (suc i) features)) ≡ false
 unfolding matches
-matches-stop row features placed i h k e = rw (drop-cons row i 0, drop-cons features i 0, ne-eqb _ _ e)
+matches-stop [] features placed i h k e = absurd (not-suc-le-zero h)
+matches-stop (r ∷ row) [] placed i h k e = absurd (not-suc-le-zero k)
+matches-stop (r ∷ row) (f ∷ features) placed zero h k e = rw (ne-eqb _ _ e)
+matches-stop (r ∷ row) (f ∷ features) placed (suc i) h k e =
+    rw (matches-stop row features placed i (le-of-suc-le-suc h) (le-of-suc-le-suc k) e, and-false)
 
-pub matches-end : (row features placed : List ℕ) (i : ℕ) → length row ≤ i → length features ≤ i
-    → matches (drop i row) (map (optionAt placed) (drop i features)) ≡ true
+pub matches-end : (row features placed : List ℕ) → matches (take 0 row) (map (optionAt placed) (take 0 features)) ≡ true
 unfolding matches
-matches-end row features placed i h k = rw (drop-of-length-le row h, drop-of-length-le features k)
+matches-end row features placed = refl
+
+-- before the first comparison, which is that at the last position, all of both is left
+module _ (row features placed : List ℕ) (last : ℕ) (r : length row ≤ suc last) (f : length features ≤ suc last) where
+  all-left : matches (take (suc last) row) (map (optionAt placed) (take (suc last) features))
+      ≡ matches row (map (optionAt placed) features)
+  all-left = rw (take-all (suc last) row r, take-all (suc last) features f)
+
+  pub last-equal : last < length row → last < length features → getD row last 0 ≡ optionAt placed (getD features last 0)
+      → matches (take last row) (map (optionAt placed) (take last features)) ≡ matches row (map (optionAt placed) features)
+  last-equal h k e = sym (matches-step row features placed last h k e) ∙ all-left
+
+  pub last-differs : last < length row → last < length features
+      → (getD row last 0 ≡ optionAt placed (getD features last 0) → ⊥)
+      → false ≡ matches row (map (optionAt placed) features)
+  last-differs h k e = sym (matches-stop row features placed last h k e) ∙ all-left
 
 -- the row of k numbers at a place
 pub row-length : (rows : List ℕ) (place k : ℕ) → place + k ≤ length rows → length (take k (drop place rows)) ≡ k

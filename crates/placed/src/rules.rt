@@ -4,7 +4,7 @@ use numbers::wide;
 ghost use mathlib.Core.Path.{_≡_};
 ghost use mathlib.Core.Bool.{true};
 ghost use mathlib.Core.List.{map};
-ghost use Prim.Native.Nat.{_≤_, _<_};
+ghost use Prim.Native.Nat.{_-_, _≤_, _<_};
 ghost use lib.ListN.{length, getD, replicate};
 ghost use Rattle.builds.specs.Rule.{highest, matches, optionAt, satisfies, firstBroken};
 ghost use Rattle.builds.specs.Catalogue.{featuresRead, ruleRead, rulesRead};
@@ -106,11 +106,11 @@ fn some_row(rows: &[u16], features: &[u16], placed: &[u8]) -> bool
     ensures { λ r. ⌜ RowTest (length (now (features .entry))) (now (rows .entry))
         (map (optionAt (now (placed .entry))) (now (features .entry))) r ⌝ }
 {
-    let first = option_at(placed, wide(features[0]));
+    let last = option_at(placed, wide(features[features.len() - 1]));
     let mut place = 0;
     while place < rows.len() {
         let end = place + features.len();
-        if row_matches(&rows[place..end], first, features, placed) {
+        if row_matches(&rows[place..end], last, features, placed) {
             return true;
         }
         place = end;
@@ -118,22 +118,23 @@ fn some_row(rows: &[u16], features: &[u16], placed: &[u8]) -> bool
     false
 }
 
-// The option at the first feature is looked up once for all rows, since most rows differ there already.
-fn row_matches(row: &[u16], first: u16, features: &[u16], placed: &[u8]) -> bool
+// A row is compared from its last position back. The option at the last feature is looked up once for all rows, since most
+// rows differ there already.
+fn row_matches(row: &[u16], last: u16, features: &[u16], placed: &[u8]) -> bool
     requires { ⌜ (length (now row) ≡ length (now features)) × (1 ≤ length (now features))
-        × (first ≡ optionAt (now placed) (getD (now features) 0 0)) ⌝ }
+        × (last ≡ optionAt (now placed) (getD (now features) (length (now features) - 1) 0)) ⌝ }
     requires { ⌜ EachBelow (length (now placed)) (now features) ⌝ }
     ensures { λ r. ⌜ r ≡ matches (now (row .entry)) (map (optionAt (now (placed .entry))) (now (features .entry))) ⌝ }
 {
-    if row[0] != first {
+    let mut i = features.len() - 1;
+    if row[i] != last {
         return false;
     }
-    let mut i = 1;
-    while i < features.len() {
+    while 0 < i {
+        i -= 1;
         if row[i] != option_at(placed, wide(features[i])) {
             return false;
         }
-        i += 1;
     }
     true
 }

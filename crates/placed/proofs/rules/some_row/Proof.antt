@@ -13,12 +13,12 @@ use Rattle.placed.proofs.rules.some_row.Statement.{statement}
 use Rattle.placed.proofs.rules.some_row.Tie as tie
 
 abbrev Inv-loop : tie.InvT-loop
-Inv-loop rows features placed first place₀ place =
+Inv-loop rows features placed last place₀ place =
     (count : ℕ) → length features * count ≡ length rows
     → RowsLeft (length features) rows (map (optionAt placed) features) (someRow (rowsRead (length features) count rows) (map (optionAt placed) features)) place
 
 abbrev μ-loop : tie.MeasureT-loop
-μ-loop rows features placed first place₀ place = length rows - place
+μ-loop rows features placed last place₀ place = length rows - place
 
 abbrev start-of : tie.At-loop Inv-loop μ-loop → tie.Start Inv-loop μ-loop
 start-of c = c .before .before .before .before .before .before .before
@@ -30,6 +30,12 @@ row-room c =
     let whole = start-of (c .before) .pre .0 .1 in
     row-here (c .before .loop .inv (whole .0) (whole .1)) (c .loop-test .taken)
 
+sub-wide : tie.Need-sub-wide Inv-loop μ-loop
+sub-wide c = search needs
+
+mul-wide : tie.Need-mul-wide Inv-loop μ-loop
+mul-wide c = search needs
+
 shared-slice-read-wide : tie.Need-shared-slice-read-wide Inv-loop μ-loop
 shared-slice-read-wide c = search needs
 
@@ -39,7 +45,7 @@ wide-requires c κs = search needs
 option-at-requires : tie.Need-option-at-requires Inv-loop μ-loop
 option-at-requires c κs =
     let start = c .before .before .before .before .before in
-    rw (c .wide .ensures .0) (every-at (start .pre .1) 0 0 (start .pre .0 .0))
+    rw (c .wide .ensures .0) (every-at (start .pre .1) 0 (length (start .args .features .now) - 1) (omega (arith, start .pre)))
 
 loop-holds : tie.Need-loop-holds Inv-loop μ-loop
 loop-holds c = λ count e. RowsLeft.these count (omega arith) refl
@@ -66,8 +72,8 @@ row-matches-requires c κs =
     let k = length (start .args .features .now) in
     let place = head .loop .place in
     let span : place + k - place ≡ k = omega arith in
-    let first = rw (head .before .before .wide .ensures .0) at (head .before .option-at .ensures) in
-    ((rw (span, row-length (start .args .rows .now) place k (row-room (c .before))) refl, start .pre .0 .0, first), start .pre .1)
+    let last = rw (head .before .before .wide .ensures .0) at (head .before .option-at .ensures) in
+    ((rw (span, row-length (start .args .rows .now) place k (row-room (c .before))) refl, start .pre .0 .0, last), start .pre .1)
 
 -- the call's answer is whether the row at the place matches
 row-tested : (c : tie.After-row-matches Inv-loop μ-loop)
@@ -101,6 +107,8 @@ some-row-spec =
     (tie.spec
     Inv-loop
     μ-loop
+    sub-wide
+    mul-wide
     shared-slice-read-wide
     wide-requires
     option-at-requires
