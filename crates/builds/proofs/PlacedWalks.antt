@@ -8,10 +8,12 @@ use native.Mathlib.Numerals.{add-one}
 use native.Mathlib.Nat.{mul-suc, not-suc-le-zero, le-of-suc-le-suc}
 use native.Mathlib.Omega.{arith}
 use lib.ListN.{length, getD, take, drop, length-take, length-drop, drop-of-length-le}
-use lib.Seq.{drop-cons, drop-drop, take-all}
+use lib.Seq.{drop-cons, drop-drop, take-all, getD-drop}
 use borrow.Author.Tests.{eq-eqb, ne-eqb}
+use Rattle.builds.specs.Lists.{Every}
 use Rattle.builds.specs.Rule.{highest, optionAt, matches, someRow}
 use Rattle.builds.specs.Catalogue.{rowsRead}
+use Rattle.builds.specs.inner.Starts.{EachBelow}
 
 -- within a list the default of a reading does not matter
 pub getD-within : (l : List ℕ) (i d e : ℕ) → i < length l → getD l i d ≡ getD l i e
@@ -28,6 +30,10 @@ unfolding highest
 highest-end l i h = rw (drop-of-length-le l h)
 
 -- what is left of a row that is compared from its last position back, and the options placed at what is left of the features
+pub matches-begin : (row features placed : List ℕ) (n : ℕ) → length row ≤ n → length features ≤ n
+    → matches (take n row) (map (optionAt placed) (take n features)) ≡ matches row (map (optionAt placed) features)
+matches-begin row features placed n h k = rw (take-all n row h, take-all n features k)
+
 pub matches-step : (row features placed : List ℕ) (i : ℕ) → i < length row → i < length features
     → getD row i 0 ≡ optionAt placed (getD features i 0)
     → matches (take (suc i) row) (map (optionAt placed) (take (suc i) features))
@@ -53,24 +59,33 @@ pub matches-end : (row features placed : List ℕ) → matches (take 0 row) (map
 unfolding matches
 matches-end row features placed = refl
 
--- before the first comparison, which is that at the last position, all of both is left
-module _ (row features placed : List ℕ) (last : ℕ) (r : length row ≤ suc last) (f : length features ≤ suc last) where
-  all-left : matches (take (suc last) row) (map (optionAt placed) (take (suc last) features))
-      ≡ matches row (map (optionAt placed) features)
-  all-left = rw (take-all (suc last) row r, take-all (suc last) features f)
-
-  pub last-equal : last < length row → last < length features → getD row last 0 ≡ optionAt placed (getD features last 0)
-      → matches (take last row) (map (optionAt placed) (take last features)) ≡ matches row (map (optionAt placed) features)
-  last-equal h k e = sym (matches-step row features placed last h k e) ∙ all-left
-
-  pub last-differs : last < length row → last < length features
-      → (getD row last 0 ≡ optionAt placed (getD features last 0) → ⊥)
-      → false ≡ matches row (map (optionAt placed) features)
-  last-differs h k e = sym (matches-stop row features placed last h k e) ∙ all-left
-
 -- the row of k numbers at a place
 pub row-length : (rows : List ℕ) (place k : ℕ) → place + k ≤ length rows → length (take k (drop place rows)) ≡ k
 row-length rows place k within = simp (length-take, length-drop) (omega arith)
+
+-- the row at a place, when its last number is compared
+module _ (rows features placed : List ℕ) (place last : ℕ) (room : place + last < length rows) (k : length features ≡ suc last) where
+  here : last < length (drop place rows)
+  here = rw length-drop (omega arith)
+
+  pub last-equal : getD rows (place + last) 0 ≡ optionAt placed (getD features last 0)
+      → matches (take (suc last) (drop place rows)) (map (optionAt placed) features)
+      ≡ matches (take last (drop place rows)) (map (optionAt placed) (take last features))
+  last-equal e =
+      rw (take-all (suc last) features (omega arith)) at
+      (matches-step (drop place rows) features placed last here (omega arith) (getD-drop place rows last 0 ∙ e))
+
+  pub last-differs : (getD rows (place + last) 0 ≡ optionAt placed (getD features last 0) → ⊥)
+      → matches (take (suc last) (drop place rows)) (map (optionAt placed) features) ≡ false
+  last-differs e =
+      rw (take-all (suc last) features (omega arith)) at
+      (matches-stop (drop place rows) features placed last here (omega arith) (λ same. e (sym (getD-drop place rows last 0) ∙ same)))
+
+-- what is left of features that are all below n
+pub front-below : {n : ℕ} {features : List ℕ} (last : ℕ) → EachBelow n features → EachBelow n (take last features)
+front-below zero below = Every.none
+front-below (suc last) Every.none = Every.none
+front-below (suc last) (Every.also h hs) = Every.also h (front-below last hs)
 
 -- the walk over the rows, k numbers each, has come to a place: what is left are whole rows, and some row matches when one
 -- of those does
@@ -79,10 +94,6 @@ pub data RowsLeft (k : ℕ) (rows options : List ℕ) (answer : Bool) (place : �
       → RowsLeft k rows options answer place
 
 module _ {k : ℕ} {rows options : List ℕ} {answer : Bool} {place : ℕ} where
-  pub row-here : RowsLeft k rows options answer place → place < length rows → place + k ≤ length rows
-  row-here (RowsLeft.these zero e s) h = absurd (omega arith)
-  row-here (RowsLeft.these (suc left) e s) h = omega (arith, mul-suc k left)
-
   pub row-found : RowsLeft k rows options answer place → place < length rows
       → matches (take k (drop place rows)) options ≡ true → true ≡ answer
   unfolding someRow rowsRead
@@ -96,7 +107,7 @@ module _ {k : ℕ} {rows options : List ℕ} {answer : Bool} {place : ℕ} where
   row-passed (RowsLeft.these (suc left) e s) h m =
       RowsLeft.these left (omega (arith, mul-suc k left)) (rw (m, drop-drop) at s)
 
-  pub no-row-left : RowsLeft k rows options answer place → 1 ≤ k → length rows ≤ place → false ≡ answer
+  pub no-row-left : RowsLeft k rows options answer place → length rows < place + k → false ≡ answer
   unfolding someRow rowsRead
-  no-row-left (RowsLeft.these zero e s) k-low h = s
-  no-row-left (RowsLeft.these (suc left) e s) k-low h = absurd (omega (arith, mul-suc k left))
+  no-row-left (RowsLeft.these zero e s) h = s
+  no-row-left (RowsLeft.these (suc left) e s) h = absurd (omega (arith, mul-suc k left))

@@ -4,7 +4,7 @@ use numbers::wide;
 ghost use mathlib.Core.Path.{_≡_};
 ghost use mathlib.Core.Bool.{true};
 ghost use mathlib.Core.List.{map};
-ghost use Prim.Native.Nat.{_-_, _≤_, _<_};
+ghost use Prim.Native.Nat.{_≤_, _<_};
 ghost use lib.ListN.{length, getD, replicate};
 ghost use Rattle.builds.specs.Rule.{highest, matches, optionAt, satisfies, firstBroken};
 ghost use Rattle.builds.specs.Catalogue.{featuresRead, ruleRead, rulesRead};
@@ -99,37 +99,35 @@ fn option_at(placed: &[u8], feature: usize) -> u16
     placed[feature] as u16
 }
 
-// The row test: whether one of the rows, which stand one after another, matches what is placed at the features.
+// The row test: whether one of the rows, which stand one after another, matches what is placed at the features. Each row is
+// compared from its last position back, since most rows differ there: what is placed at the last feature is looked up once.
 fn some_row(rows: &[u16], features: &[u16], placed: &[u8]) -> bool
     requires { ⌜ (1 ≤ length (now features)) × WholeRows (length (now features)) (now rows) ⌝ }
     requires { ⌜ EachBelow (length (now placed)) (now features) ⌝ }
     ensures { λ r. ⌜ RowTest (length (now (features .entry))) (now (rows .entry))
         (map (optionAt (now (placed .entry))) (now (features .entry))) r ⌝ }
 {
-    let last = option_at(placed, wide(features[features.len() - 1]));
-    let mut place = 0;
+    let front = features.len() - 1;
+    let last = option_at(placed, wide(features[front]));
+    let mut place = front;
     while place < rows.len() {
-        let end = place + features.len();
-        if row_matches(&rows[place..end], last, features, placed) {
+        if rows[place] == last
+            && row_matches(&rows[place - front..place], &features[0..front], placed)
+        {
             return true;
         }
-        place = end;
+        place += features.len();
     }
     false
 }
 
-// A row is compared from its last position back. The option at the last feature is looked up once for all rows, since most
-// rows differ there already.
-fn row_matches(row: &[u16], last: u16, features: &[u16], placed: &[u8]) -> bool
-    requires { ⌜ (length (now row) ≡ length (now features)) × (1 ≤ length (now features))
-        × (last ≡ optionAt (now placed) (getD (now features) (length (now features) - 1) 0)) ⌝ }
+// Whether a row, or the front of one, matches what is placed at the features; compared from its last position back.
+fn row_matches(row: &[u16], features: &[u16], placed: &[u8]) -> bool
+    requires { ⌜ length (now row) ≡ length (now features) ⌝ }
     requires { ⌜ EachBelow (length (now placed)) (now features) ⌝ }
     ensures { λ r. ⌜ r ≡ matches (now (row .entry)) (map (optionAt (now (placed .entry))) (now (features .entry))) ⌝ }
 {
-    let mut i = features.len() - 1;
-    if row[i] != last {
-        return false;
-    }
+    let mut i = features.len();
     while 0 < i {
         i -= 1;
         if row[i] != option_at(placed, wide(features[i])) {

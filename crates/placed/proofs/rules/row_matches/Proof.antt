@@ -1,4 +1,4 @@
--- The row matches when what is left of it, the front, matches the options at what is left of the features, as long as all
+-- The row matches when what is left of it, its front, matches the options at what is left of the features, as long as all
 -- behind are equal.
 use Prim.Native.Nat.{suc, _≤_, _-_}
 use mathlib.Core.Path.{_≡_, sym, _∙_}
@@ -7,18 +7,24 @@ use native.Mathlib.Omega.{arith}
 use lib.ListN.{length, take}
 use Rattle.builds.specs.Rule.{optionAt, matches}
 use Rattle.builds.proofs.Every.{every-at}
-use Rattle.builds.proofs.PlacedWalks.{last-equal, last-differs, matches-step, matches-stop, matches-end}
+use Rattle.builds.proofs.PlacedWalks.{matches-begin, matches-step, matches-stop, matches-end}
 use borrow.Author.Needs.{needs}
 use Rattle.placed.proofs.rules.row_matches.Statement.{statement}
 use Rattle.placed.proofs.rules.row_matches.Tie as tie
 
 abbrev Inv-loop : tie.InvT-loop
-Inv-loop row last features placed i₀ i =
-    (i ≤ length features - 1)
+Inv-loop row features placed i₀ i =
+    (i ≤ length features)
     × (matches (take i row) (map (optionAt placed) (take i features)) ≡ matches row (map (optionAt placed) features))
 
 abbrev μ-loop : tie.MeasureT-loop
-μ-loop row last features placed i₀ i = i
+μ-loop row features placed i₀ i = i
+
+loop-holds : tie.Need-loop-holds Inv-loop μ-loop
+loop-holds c =
+    let start = c .before .before .before in
+    let a = start .args in
+    (omega arith, matches-begin (a .row .now) (a .features .now) (a .placed .now) (length (a .features .now)) (omega (arith, start .pre)) (omega arith))
 
 sub-i : tie.Need-sub-i Inv-loop μ-loop
 sub-i c = search needs
@@ -28,28 +34,6 @@ mul-if1 c = search needs
 
 shared-slice-read-if1 : tie.Need-shared-slice-read-if1 Inv-loop μ-loop
 shared-slice-read-if1 c = search needs
-
-returns : tie.Need-returns Inv-loop μ-loop
-returns c =
-    let start = c .before .before .before .before .before in
-    let a = start .args in
-    last-differs (a .row .now) (a .features .now) (a .placed .now) _ (omega (arith, start .pre)) (omega arith) (omega (arith, start .pre)) (omega (arith, start .pre)) (λ e. c .if1 .taken (e ∙ sym (start .pre .0 .2)))
-
-loop-holds : tie.Need-loop-holds Inv-loop μ-loop
-loop-holds c =
-    let start = c .before .before .before .before .before in
-    let a = start .args in
-    let same = last-equal (a .row .now) (a .features .now) (a .placed .now) _ (omega (arith, start .pre)) (omega arith) (omega (arith, start .pre)) (omega (arith, start .pre)) (c .if1 .left ∙ start .pre .0 .2) in
-    (omega arith, same)
-
-sub-i-2 : tie.Need-sub-i-2 Inv-loop μ-loop
-sub-i-2 c = search needs
-
-mul-if2 : tie.Need-mul-if2 Inv-loop μ-loop
-mul-if2 c = search needs
-
-shared-slice-read-if2 : tie.Need-shared-slice-read-if2 Inv-loop μ-loop
-shared-slice-read-if2 c = search needs
 
 mul-wide : tie.Need-mul-wide Inv-loop μ-loop
 mul-wide c = search needs
@@ -62,17 +46,16 @@ wide-requires c κs = search needs
 
 option-at-requires : tie.Need-option-at-requires Inv-loop μ-loop
 option-at-requires c κs =
-    let start = c .before .before .before .before .before .before .before .before .before .before in
-    let l = c .before .before .before .before .loop in
-    rw (c .wide .ensures .0) (every-at (start .pre .1) 0 (l .i - 1) (omega (arith, l .inv .0, start .pre .0 .1)))
+    let start = c .before .before .before .before .before .before .before .before in
+    rw (c .wide .ensures .0) (every-at (start .pre .1) 0 _ (omega arith))
 
-returns-2 : tie.Need-returns-2 Inv-loop μ-loop
-returns-2 c =
-    let start = c .before .before .before .before .before .before .before .before .before .before .before .before in
+returns : tie.Need-returns Inv-loop μ-loop
+returns c =
+    let start = c .before .before .before .before .before .before .before .before .before .before in
     let a = start .args in
     let l = c .before .before .before .before .before .before .loop in
     let here : suc (l .i - 1) ≡ l .i = omega arith in
-    let other = rw (c .before .option-at .ensures, c .before .before .wide .ensures .0) at (c .if2 .taken) in
+    let other = rw (c .before .option-at .ensures, c .before .before .wide .ensures .0) at (c .if1 .taken) in
     sym (rw here at (matches-stop (a .row .now) (a .features .now) (a .placed .now) (l .i - 1) (omega (arith, start .pre)) (omega arith) other)) ∙ l .inv .1
 
 loop-less : tie.Need-loop-less Inv-loop μ-loop
@@ -80,20 +63,19 @@ loop-less c = search needs
 
 loop-again : tie.Need-loop-again Inv-loop μ-loop
 loop-again c =
-    let start = c .before .before .before .before .before .before .before .before .before .before .before .before in
+    let start = c .before .before .before .before .before .before .before .before .before .before in
     let a = start .args in
     let l = c .before .before .before .before .before .before .loop in
     let here : suc (l .i - 1) ≡ l .i = omega arith in
-    let same = rw (c .before .option-at .ensures, c .before .before .wide .ensures .0) at (c .if2 .left) in
+    let same = rw (c .before .option-at .ensures, c .before .before .wide .ensures .0) at (c .if1 .left) in
     (omega arith, sym (rw here at (matches-step (a .row .now) (a .features .now) (a .placed .now) (l .i - 1) (omega (arith, start .pre)) (omega arith) same)) ∙ l .inv .1)
 
-returns-3 : tie.Need-returns-3 Inv-loop μ-loop
-returns-3 c =
-    let start = c .before .before .before .before .before .before .before in
+returns-2 : tie.Need-returns-2 Inv-loop μ-loop
+returns-2 c =
+    let start = c .before .before .before .before .before in
     let a = start .args in
-    let l = c .before .loop in
-    let front : l .i ≡ 0 = omega arith in
-    sym (matches-end (a .row .now) (a .features .now) (a .placed .now)) ∙ rw front at (l .inv .1)
+    let front : c .before .loop .i ≡ 0 = omega arith in
+    sym (matches-end (a .row .now) (a .features .now) (a .placed .now)) ∙ rw front at (c .before .loop .inv .1)
 
 pub row-matches-spec : {M : Type 1} → statement M
 row-matches-spec =
@@ -101,19 +83,15 @@ row-matches-spec =
     (tie.spec
     Inv-loop
     μ-loop
+    loop-holds
     sub-i
     mul-if1
     shared-slice-read-if1
-    returns
-    loop-holds
-    sub-i-2
-    mul-if2
-    shared-slice-read-if2
     mul-wide
     shared-slice-read-wide
     wide-requires
     option-at-requires
-    returns-2
+    returns
     loop-less
     loop-again
-    returns-3)
+    returns-2)

@@ -1,37 +1,34 @@
--- Some row matches when one of those from the place on does, as long as none before did.
-use Prim.Native.Nat.{ℕ, _+_, _-_, _*_, _≤_}
+-- Some row matches when one of those from here on does, as long as none before did. The place is that of a row's last number.
+use Prim.Native.Nat.{ℕ, suc, _+_, _-_, _*_, _≤_}
 use mathlib.Core.Path.{_≡_, refl, sym, _∙_}
+use mathlib.Core.Logic.{⊎-elim}
 use mathlib.Core.List.{map}
+use mathlib.Core.Bool.{Bool, false}
 use native.Mathlib.Omega.{arith}
 use lib.ListN.{length, take, drop}
 use Rattle.builds.specs.Rule.{optionAt, matches, someRow}
 use Rattle.builds.specs.Catalogue.{rowsRead}
 use Rattle.builds.proofs.Every.{every-at}
-use Rattle.builds.proofs.PlacedWalks.{row-length, RowsLeft, row-here, row-found, row-passed, no-row-left}
+use Rattle.builds.proofs.PlacedWalks.{row-length, last-equal, last-differs, front-below, RowsLeft, row-found, row-passed, no-row-left}
 use borrow.Author.Needs.{needs}
 use Rattle.placed.proofs.rules.some_row.Statement.{statement}
 use Rattle.placed.proofs.rules.some_row.Tie as tie
 
 abbrev Inv-loop : tie.InvT-loop
-Inv-loop rows features placed last place₀ place =
-    (count : ℕ) → length features * count ≡ length rows
-    → RowsLeft (length features) rows (map (optionAt placed) features) (someRow (rowsRead (length features) count rows) (map (optionAt placed) features)) place
+Inv-loop rows features placed front last place₀ place =
+    (length features ≡ suc front)
+    × (front ≤ place)
+    × ((count : ℕ) → length features * count ≡ length rows
+    → RowsLeft (length features) rows (map (optionAt placed) features) (someRow (rowsRead (length features) count rows) (map (optionAt placed) features)) (place - front))
 
 abbrev μ-loop : tie.MeasureT-loop
-μ-loop rows features placed last place₀ place = length rows - place
+μ-loop rows features placed front last place₀ place = length rows - place
 
 abbrev start-of : tie.At-loop Inv-loop μ-loop → tie.Start Inv-loop μ-loop
 start-of c = c .before .before .before .before .before .before .before
 
--- the row at the place lies in the list whole
-row-room : (c : tie.In-loop Inv-loop μ-loop)
-    → c .before .loop .place + length (start-of (c .before) .args .features .now) ≤ length (start-of (c .before) .args .rows .now)
-row-room c =
-    let whole = start-of (c .before) .pre .0 .1 in
-    row-here (c .before .loop .inv (whole .0) (whole .1)) (c .loop-test .taken)
-
-sub-wide : tie.Need-sub-wide Inv-loop μ-loop
-sub-wide c = search needs
+sub-front : tie.Need-sub-front Inv-loop μ-loop
+sub-front c = search needs
 
 mul-wide : tie.Need-mul-wide Inv-loop μ-loop
 mul-wide c = search needs
@@ -45,61 +42,113 @@ wide-requires c κs = search needs
 option-at-requires : tie.Need-option-at-requires Inv-loop μ-loop
 option-at-requires c κs =
     let start = c .before .before .before .before .before in
-    rw (c .wide .ensures .0) (every-at (start .pre .1) 0 (length (start .args .features .now) - 1) (omega (arith, start .pre)))
+    rw (c .wide .ensures .0) (every-at (start .pre .1) 0 _ (omega (arith, start .pre)))
 
 loop-holds : tie.Need-loop-holds Inv-loop μ-loop
-loop-holds c = λ count e. RowsLeft.these count (omega arith) refl
+loop-holds c =
+    let n = length (c .before .before .before .before .before .before .args .features .now) in
+    let none : n - 1 - (n - 1) ≡ 0 = omega arith in
+    (omega (arith, c .before .before .before .before .before .before .pre), omega arith, λ count e. rw none (RowsLeft.these count (omega arith) refl))
 
-add-end : tie.Need-add-end Inv-loop μ-loop
-add-end c = omega (arith, row-room c)
+-- the row at the place, when its last number is compared with what is placed at the last feature
+abbrev row-matches-here : tie.In-loop Inv-loop μ-loop → Bool
+row-matches-here c =
+    let a = start-of (c .before) .args in
+    let k = length (a .features .now) in
+    matches (take k (drop (c .before .loop .place - (k - 1)) (a .rows .now))) (map (optionAt (a .placed .now)) (a .features .now))
+
+row-differs : (c : tie.Else1 Inv-loop μ-loop) → row-matches-here (c .before .before) ≡ false
+row-differs c =
+    let head = c .before .before .before in
+    let a = start-of head .args in
+    let k = length (a .features .now) in
+    let whole : suc (k - 1) ≡ k = omega (arith, head .loop .inv .0) in
+    let last-at : head .loop .place - (k - 1) + (k - 1) ≡ head .loop .place = omega arith in
+    let other = rw (head .before .option-at .ensures, head .before .before .wide .ensures .0) at (c .if1 .left) in
+    rw whole at (last-differs (a .rows .now) (a .features .now) (a .placed .now) (head .loop .place - (k - 1)) (k - 1) (omega arith) (sym whole) (rw last-at other))
+
+-- where the last numbers are equal, the call's answer is whether the row matches
+row-tested : (c : tie.After-row-matches Inv-loop μ-loop) → row-matches-here (c .before .before .before .before .before) ≡ c .row-matches .result
+row-tested c =
+    let then = c .before .before .before in
+    let head = then .before .before .before in
+    let a = start-of head .args in
+    let n = length (a .features .now) - 1 in
+    let place = head .loop .place in
+    let whole : suc n ≡ length (a .features .now) = omega (arith, head .loop .inv .0) in
+    let last-at : place - n + n ≡ place = omega arith in
+    let span : place - (place - n) ≡ n = omega arith in
+    let all : n - 0 ≡ n = omega arith in
+    let same = rw (head .before .option-at .ensures, head .before .before .wide .ensures .0) at (then .if1 .taken) in
+    rw whole at (last-equal (a .rows .now) (a .features .now) (a .placed .now) (place - n) n (omega arith) (sym whole) (rw last-at same)) ∙ sym (rw (span, all) at (c .row-matches .ensures))
+
+mul-if1 : tie.Need-mul-if1 Inv-loop μ-loop
+mul-if1 c = search needs
+
+shared-slice-read-if1 : tie.Need-shared-slice-read-if1 Inv-loop μ-loop
+shared-slice-read-if1 c = search needs
+
+sub-row-matches : tie.Need-sub-row-matches Inv-loop μ-loop
+sub-row-matches c = search needs
 
 mul-row-matches : tie.Need-mul-row-matches Inv-loop μ-loop
 mul-row-matches c = search needs
 
-sub-row-matches : tie.Need-sub-row-matches Inv-loop μ-loop
-sub-row-matches c = search needs
+sub-row-matches-2 : tie.Need-sub-row-matches-2 Inv-loop μ-loop
+sub-row-matches-2 c = search needs
 
 part-row-matches-start : tie.Need-part-row-matches-start Inv-loop μ-loop
 part-row-matches-start c = search needs
 
 part-row-matches-end : tie.Need-part-row-matches-end Inv-loop μ-loop
-part-row-matches-end c = omega (arith, row-room c)
+part-row-matches-end c = search needs
+
+sub-row-matches-3 : tie.Need-sub-row-matches-3 Inv-loop μ-loop
+sub-row-matches-3 c = search needs
+
+part-row-matches-start-2 : tie.Need-part-row-matches-start-2 Inv-loop μ-loop
+part-row-matches-start-2 c = search needs
+
+part-row-matches-end-2 : tie.Need-part-row-matches-end-2 Inv-loop μ-loop
+part-row-matches-end-2 c = search needs
 
 row-matches-requires : tie.Need-row-matches-requires Inv-loop μ-loop
 row-matches-requires c κs =
-    let head = c .before .before in
-    let start = start-of head in
-    let k = length (start .args .features .now) in
-    let place = head .loop .place in
-    let span : place + k - place ≡ k = omega arith in
-    let last = rw (head .before .before .wide .ensures .0) at (head .before .option-at .ensures) in
-    ((rw (span, row-length (start .args .rows .now) place k (row-room (c .before))) refl, start .pre .0 .0, last), start .pre .1)
-
--- the call's answer is whether the row at the place matches
-row-tested : (c : tie.After-row-matches Inv-loop μ-loop)
-    → let start = start-of (c .before .before .before) in
-    matches (take (length (start .args .features .now)) (drop (c .before .before .before .loop .place) (start .args .rows .now))) (map (optionAt (start .args .placed .now)) (start .args .features .now))
-    ≡ c .row-matches .result
-row-tested c =
-    let head = c .before .before .before in
-    let k = length (start-of head .args .features .now) in
-    let place = head .loop .place in
-    let span : place + k - place ≡ k = omega arith in
-    sym (rw span at (c .row-matches .ensures))
+    let inside = c .before .before .before .before in
+    let start = start-of (inside .before) in
+    let place = inside .before .loop .place in
+    let n = length (start .args .features .now) - 1 in
+    let same : place - (place - n) ≡ n - 0 = omega arith in
+    let row = row-length (start .args .rows .now) (place - n) (place - (place - n)) (omega arith) in
+    let front = row-length (start .args .features .now) 0 (n - 0) (omega arith) in
+    (row ∙ same ∙ sym front, front-below (n - 0) (start .pre .1))
 
 returns : tie.Need-returns Inv-loop μ-loop
 returns c =
-    λ count e. row-found (c .before .before .before .before .loop .inv count e) (c .before .before .before .loop-test .taken) (row-tested (c .before) ∙ c .if1 .taken)
+    let head = c .before .before .before .before .before .before .before in
+    λ count e. row-found (head .loop .inv .2 count e) (omega arith) (row-tested (c .before) ∙ c .if2 .taken)
+
+add-place : tie.Need-add-place Inv-loop μ-loop
+add-place c = search needs
 
 loop-less : tie.Need-loop-less Inv-loop μ-loop
 loop-less c = search needs
 
 loop-again : tie.Need-loop-again Inv-loop μ-loop
 loop-again c =
-    λ count e. row-passed (c .before .before .before .before .loop .inv count e) (c .before .before .before .loop-test .taken) (row-tested (c .before) ∙ c .if1 .left)
+    let head = c .before .before .before in
+    let k = length (start-of head .args .features .now) in
+    let place = head .loop .place in
+    let passed : row-matches-here (c .before .before) ≡ false =
+    ⊎-elim
+    (λ w. row-tested record { before = record { before = record { before = record { before = c .before; if1 = w .0 }; row-matches-arg = w .1 }; row-matches-arg2 = w .2 }; row-matches = w .3 } ∙ w .4 .left)
+    (λ w. row-differs record { before = c .before; if1 = w })
+    (c .if1 .came) in
+    let on : place + k - (k - 1) ≡ place - (k - 1) + k = omega arith in
+    (head .loop .inv .0, omega arith, λ count e. rw on (row-passed (head .loop .inv .2 count e) (omega arith) passed))
 
 returns-2 : tie.Need-returns-2 Inv-loop μ-loop
-returns-2 c = λ count e. no-row-left (c .before .loop .inv count e) (start-of (c .before) .pre .0 .0) (omega arith)
+returns-2 c = λ count e. no-row-left (c .before .loop .inv .2 count e) (omega (arith, c .before .loop .inv .0))
 
 pub some-row-spec : {M : Type 1} → statement M
 some-row-spec =
@@ -107,19 +156,25 @@ some-row-spec =
     (tie.spec
     Inv-loop
     μ-loop
-    sub-wide
+    sub-front
     mul-wide
     shared-slice-read-wide
     wide-requires
     option-at-requires
     loop-holds
-    add-end
-    mul-row-matches
+    mul-if1
+    shared-slice-read-if1
     sub-row-matches
+    mul-row-matches
+    sub-row-matches-2
     part-row-matches-start
     part-row-matches-end
+    sub-row-matches-3
+    part-row-matches-start-2
+    part-row-matches-end-2
     row-matches-requires
     returns
+    add-place
     loop-less
     loop-again
     returns-2)
