@@ -57,7 +57,7 @@
 extern "C" {
 #endif
 
-#define NETHAZEL_VERSION "0.3.0"
+#define NETHAZEL_VERSION "0.3.1"
 
 /* The layout: the number of this header's records and calls. Each call's symbol has it in its name, so that a host which was
    compiled for other records or calls is not linked. If the linker says

@@ -81,7 +81,7 @@ module _ (rows features placed : List ℕ) (place last : ℕ) (room : place + la
       rw (take-all (suc last) features (omega arith)) at
       (matches-stop (drop place rows) features placed last here (omega arith) (λ same. e (sym (getD-drop place rows last 0) ∙ same)))
 
--- what is left of features that are all below n
+-- where features are below n, so is their front
 pub front-below : {n : ℕ} {features : List ℕ} (last : ℕ) → EachBelow n features → EachBelow n (take last features)
 front-below zero below = Every.none
 front-below (suc last) Every.none = Every.none

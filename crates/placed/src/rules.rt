@@ -5,7 +5,7 @@ ghost use mathlib.Core.Path.{_≡_};
 ghost use mathlib.Core.Bool.{true};
 ghost use mathlib.Core.List.{map};
 ghost use Prim.Native.Nat.{_≤_, _<_};
-ghost use lib.ListN.{length, getD, replicate};
+ghost use lib.ListN.{length, replicate};
 ghost use Rattle.builds.specs.Rule.{highest, matches, optionAt, satisfies, firstBroken};
 ghost use Rattle.builds.specs.Catalogue.{featuresRead, ruleRead, rulesRead};
 ghost use Rattle.builds.specs.inner.Starts.{wholeRule, wholeRules, EachBelow, FeaturesBelow, WholeRows, RowTest};
@@ -100,14 +100,15 @@ fn option_at(placed: &[u8], feature: usize) -> u16
 }
 
 // The row test: whether one of the rows, which stand one after another, matches what is placed at the features. Each row is
-// compared from its last position back, since most rows differ there: what is placed at the last feature is looked up once.
+// compared from its last position back, for most rows differ there. What is placed at the last feature is looked up once for
+// all rows; the place is that of a row's last option.
 fn some_row(rows: &[u16], features: &[u16], placed: &[u8]) -> bool
     requires { ⌜ (1 ≤ length (now features)) × WholeRows (length (now features)) (now rows) ⌝ }
     requires { ⌜ EachBelow (length (now placed)) (now features) ⌝ }
     ensures { λ r. ⌜ RowTest (length (now (features .entry))) (now (rows .entry))
         (map (optionAt (now (placed .entry))) (now (features .entry))) r ⌝ }
 {
-    let front = features.len() - 1;
+    let front = features.len() - 1; // the positions before the last
     let last = option_at(placed, wide(features[front]));
     let mut place = front;
     while place < rows.len() {
@@ -121,8 +122,8 @@ fn some_row(rows: &[u16], features: &[u16], placed: &[u8]) -> bool
     false
 }
 
-// Whether a row, or the front of one, matches what is placed at the features; compared from its last position back. The
-// positions found equal are counted: with an index that falls, each row that comes here took three instructions more.
+// Whether a row, or the front of one, matches what is placed at the features; compared from its last position back. It counts
+// the positions that are equal, for an index that falls compiles to a loop of more instructions.
 fn row_matches(row: &[u16], features: &[u16], placed: &[u8]) -> bool
     requires { ⌜ length (now row) ≡ length (now features) ⌝ }
     requires { ⌜ EachBelow (length (now placed)) (now features) ⌝ }

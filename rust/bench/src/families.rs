@@ -103,3 +103,35 @@ pub fn pairs_of_features(rules: usize) -> Family {
         catalogue: Catalogue::from_numbers(&sizes, &list),
     }
 }
+
+/// Five features of a frame and eleven others; for each of these a rule on the frame and it. A rule's rows are sixteen
+/// builds of the frame, which agree in their first three options, each with five options of the other feature: the rows
+/// begin alike. With each rule's features and rows written backwards they end alike, and mean the same.
+pub fn frames(backwards: bool) -> Family {
+    let sizes = [2, 2, 2, 4, 4, 8, 8, 8, 8, 8, 8, 8, 8, 8, 8, 8];
+    let mut dice = Dice(1009);
+    let mut list = Vec::new();
+    for feature in 5..16 {
+        let mut lines = vec![[0, 1, 2, 3, 4, feature]]; // the rule's features, then its rows
+        for frame in 0..16 {
+            let mut options = vec![0, 1, 2, 3, 4, 5, 6, 7];
+            for _ in 0..3 {
+                options.remove(dice.below(options.len()));
+            }
+            lines.extend(options.iter().map(|&o| [0, 0, 0, frame / 4, frame % 4, o]));
+        }
+        if backwards {
+            lines.iter_mut().for_each(|line| line.reverse());
+        }
+        list.extend([6, lines.len() as u16 - 1]);
+        list.extend(lines.concat());
+    }
+    Family {
+        name: format!(
+            "11 rules of 80 rows that {} alike ({} numbers)",
+            if backwards { "end" } else { "begin" },
+            list.len()
+        ),
+        catalogue: Catalogue::from_numbers(&sizes, &list),
+    }
+}

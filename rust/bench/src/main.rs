@@ -24,10 +24,11 @@ mod catalogue;
 mod ffi;
 
 use catalogue::Catalogue;
-use families::{drawn, one_rule, pairs_of_features, trolley, Family};
+use families::{drawn, frames, one_rule, pairs_of_features, trolley, Family};
 use report::{hundredths, micros, millions, nanos_each, ratio, turns_of, Bars, Table};
 
-/// The trolley, catalogues of 10 to 16 features with 3 to 8 options and 10 to 25 rules, and the longest rule lists.
+/// The trolley, catalogues of 10 to 16 features with 3 to 8 options and 10 to 25 rules, the longest rule lists, and rows
+/// that are alike at one end.
 fn all_families() -> Vec<Family> {
     let kinds = [
         (10, 3, 10, 45),
@@ -48,6 +49,7 @@ fn all_families() -> Vec<Family> {
     }
     families.push(one_rule(1364));
     families.push(pairs_of_features(64));
+    families.extend([false, true].map(frames));
     families
 }
 
@@ -233,7 +235,7 @@ fn print_ratios(families: &[Family]) {
     for family in families {
         let [one, eight] =
             [1, 8].map(|seats| measure::turns(family, seats, 65535, calls_for(family)));
-        let plain = [one.plain, eight.plain, one.by_first, eight.by_first];
+        let plain = [one.plain, eight.plain, one.by_last, eight.by_last];
         let ratios = [plain.as_slice(), &[one.checked, eight.checked]].concat();
         let ratios: Vec<String> = ratios.iter().map(|pair| ratio(pair.ratio())).collect();
         println!("{}\t{}", family.name, ratios.join("\t"));

@@ -48,7 +48,7 @@ impl Pair {
 /// The desk against the plain versions.
 pub struct Against {
     pub plain: Pair,
-    pub by_first: Pair, // plain, with the tuned row test
+    pub by_last: Pair, // plain, with the tuned row test
     pub checked: Pair,
 }
 
@@ -60,10 +60,10 @@ pub fn busy_desk(family: &Family, seats: usize) -> door::Desk<'_> {
     desk
 }
 
-pub fn busy_plain<const BY_FIRST: bool>(
-    catalogue: &plain::Grouped<BY_FIRST>,
+pub fn busy_plain<const BY_LAST: bool>(
+    catalogue: &plain::Grouped<BY_LAST>,
     seats: usize,
-) -> plain::Desk<'_, BY_FIRST> {
+) -> plain::Desk<'_, BY_LAST> {
     let mut desk = plain::Desk::open(catalogue);
     for c in 0..seats {
         desk.enter(c);
@@ -105,16 +105,16 @@ pub fn turns(family: &Family, seats: usize, w: u16, calls: u32) -> Against {
     let tuned = plain::Grouped::<true>::new(&family.catalogue);
     let mut best = Against {
         plain: Pair::NEVER,
-        by_first: Pair::NEVER,
+        by_last: Pair::NEVER,
         checked: Pair::NEVER,
     };
     for _ in 0..ROUNDS {
         let desk = timed_calls(|| busy_desk(family, seats), |desk| desk.turns(w), calls);
         let plain = timed_calls(|| busy_plain(&grouped, seats), |desk| desk.turns(w), calls);
-        let by_first = timed_calls(|| busy_plain(&tuned, seats), |desk| desk.turns(w), calls);
+        let by_last = timed_calls(|| busy_plain(&tuned, seats), |desk| desk.turns(w), calls);
         let checked = timed_calls(|| busy_checked(family, seats), |host| host.turns(w), calls);
         best.plain.better(desk, plain);
-        best.by_first.better(desk, by_first);
+        best.by_last.better(desk, by_last);
         best.checked.better(desk, checked);
     }
     best

@@ -21,30 +21,32 @@ impl Rule {
         self.rows.chunks_exact(self.features.len()).any(matches)
     }
 
-    /// The first option, looked up once for all rows, before the others: most rows differ there.
-    fn satisfied_by_first(&self, placed: &[u8; 16]) -> bool {
+    /// From the last option back: most rows differ there. What is placed there is looked up once for all rows.
+    fn satisfied_by_last(&self, placed: &[u8; 16]) -> bool {
         let option = |&feature: &u8| placed[usize::from(feature & 15)];
-        let first = option(&self.features[0]);
+        let end = self.features.len() - 1;
+        let last = option(&self.features[end]);
         let others = |row: &[u8]| {
-            row[1..]
+            row[..end]
                 .iter()
-                .zip(&self.features[1..])
+                .zip(&self.features[..end])
+                .rev()
                 .all(|(&given, feature)| given == option(feature))
         };
         self.rows
             .chunks_exact(self.features.len())
-            .any(|row| row[0] == first && others(row))
+            .any(|row| row[end] == last && others(row))
     }
 }
 
-pub struct Grouped<const BY_FIRST: bool> {
+pub struct Grouped<const BY_LAST: bool> {
     sizes: Vec<u8>,
     rules_at: Vec<Vec<Rule>>, // those tested at each feature
 }
 
-impl<const BY_FIRST: bool> Grouped<BY_FIRST> {
+impl<const BY_LAST: bool> Grouped<BY_LAST> {
     /// Of a catalogue without a fault.
-    pub fn new(catalogue: &Catalogue) -> Grouped<BY_FIRST> {
+    pub fn new(catalogue: &Catalogue) -> Grouped<BY_LAST> {
         let (sizes, mut list) = (catalogue.sizes(), catalogue.rule_list());
         let mut rules_at: Vec<Vec<Rule>> = sizes.iter().map(|_| Vec::new()).collect();
         let mut number = 0;
@@ -69,7 +71,7 @@ impl<const BY_FIRST: bool> Grouped<BY_FIRST> {
     }
 }
 
-impl<const BY_FIRST: bool> Rules for Grouped<BY_FIRST> {
+impl<const BY_LAST: bool> Rules for Grouped<BY_LAST> {
     fn sizes(&self) -> &[u8] {
         &self.sizes
     }
@@ -77,8 +79,8 @@ impl<const BY_FIRST: bool> Rules for Grouped<BY_FIRST> {
     fn first_broken(&self, j: usize, placed: &[u8; 16]) -> Option<u8> {
         // A loop: with `find` the row test takes up to 28 % more time where rules have many rows.
         for rule in &self.rules_at[j] {
-            let satisfied = if BY_FIRST {
-                rule.satisfied_by_first(placed)
+            let satisfied = if BY_LAST {
+                rule.satisfied_by_last(placed)
             } else {
                 rule.satisfied(placed)
             };
@@ -91,15 +93,15 @@ impl<const BY_FIRST: bool> Rules for Grouped<BY_FIRST> {
 }
 
 /// Eight seats, their board and their catalogue.
-pub struct Desk<'a, const BY_FIRST: bool> {
+pub struct Desk<'a, const BY_LAST: bool> {
     pub seats: [Seat; 8],
     pub next: usize,
     pub board: Vec<u8>,
-    catalogue: &'a Grouped<BY_FIRST>,
+    catalogue: &'a Grouped<BY_LAST>,
 }
 
-impl<'a, const BY_FIRST: bool> Desk<'a, BY_FIRST> {
-    pub fn open(catalogue: &'a Grouped<BY_FIRST>) -> Desk<'a, BY_FIRST> {
+impl<'a, const BY_LAST: bool> Desk<'a, BY_LAST> {
+    pub fn open(catalogue: &'a Grouped<BY_LAST>) -> Desk<'a, BY_LAST> {
         Desk {
             seats: [Seat::CLOSED; 8],
             next: 0,

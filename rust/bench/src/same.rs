@@ -8,8 +8,8 @@ use crate::{checked, door, measure, plain, Catalogue};
 
 /// After each of some calls, answers, records and boards are equal: while seats work on their first jobs, and then on jobs
 /// under choices.
-pub fn same_steps<const BY_FIRST: bool>(family: &Family, seats: usize) {
-    let grouped = plain::Grouped::<BY_FIRST>::new(&family.catalogue);
+pub fn same_steps<const BY_LAST: bool>(family: &Family, seats: usize) {
+    let grouped = plain::Grouped::<BY_LAST>::new(&family.catalogue);
     let mut desk = measure::busy_desk(family, seats);
     let mut plain = measure::busy_plain(&grouped, seats);
     let mut checked = measure::busy_checked(family, seats);
@@ -56,10 +56,10 @@ fn places(family: &Family) -> impl Iterator<Item = (usize, usize)> {
     (0..=8).flat_map(move |c| (0..=features).map(move |i| (c, i)))
 }
 
-fn same_turns<const BY_FIRST: bool>(
+fn same_turns<const BY_LAST: bool>(
     family: &Family,
     desk: &mut door::Desk,
-    plain: &mut plain::Desk<BY_FIRST>,
+    plain: &mut plain::Desk<BY_LAST>,
     checked: &mut checked::Host,
 ) {
     for w in (0..64).chain([0, 999, 65535, 65535, 1, 65535]) {

@@ -50,7 +50,7 @@ loop-holds c =
     let none : n - 1 - (n - 1) ≡ 0 = omega arith in
     (omega (arith, c .before .before .before .before .before .before .pre), omega arith, λ count e. rw none (RowsLeft.these count (omega arith) refl))
 
--- the row at the place, when its last number is compared with what is placed at the last feature
+-- whether the row whose last number is at the place matches: it does not where that number is not what is placed there
 abbrev row-matches-here : tie.In-loop Inv-loop μ-loop → Bool
 row-matches-here c =
     let a = start-of (c .before) .args in
