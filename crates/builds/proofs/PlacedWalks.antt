@@ -2,12 +2,13 @@
 -- entry and the definition of the rest, and at the end of the walk nothing is left.
 use Prim.Native.Nat.{ℕ, zero, suc, _+_, _*_, _≤_, _<_, max}
 use mathlib.Core.Path.{_≡_, refl, sym, _∙_}
-use mathlib.Core.Bool.{Bool, true, false, and-false}
+use mathlib.Core.Bool.{Bool, true, false, _&&_, and-true, and-false, and-assoc}
 use mathlib.Core.List.{List, [], _∷_, map}
 use native.Mathlib.Numerals.{add-one}
 use native.Mathlib.Nat.{mul-suc, not-suc-le-zero, le-of-suc-le-suc}
 use native.Mathlib.Omega.{arith}
 use lib.ListN.{length, getD, take, drop, length-take, length-drop, drop-of-length-le}
+use lib.Dec.{eqb}
 use lib.Seq.{drop-cons, drop-drop, take-all, getD-drop}
 use borrow.Author.Tests.{eq-eqb, ne-eqb}
 use Rattle.builds.specs.Lists.{Every}
@@ -34,26 +35,26 @@ pub matches-begin : (row features placed : List ℕ) (n : ℕ) → length row �
     → matches (take n row) (map (optionAt placed) (take n features)) ≡ matches row (map (optionAt placed) features)
 matches-begin row features placed n h k = rw (take-all n row h, take-all n features k)
 
+pub matches-last : (row features placed : List ℕ) (i : ℕ) → i < length row → i < length features
+    → matches (take (suc i) row) (map (optionAt placed) (take (suc i) features))
+    ≡ (matches (take i row) (map (optionAt placed) (take i features)) && eqb (getD row i 0) (optionAt placed (getD features i 0)))
+unfolding matches
+matches-last [] features placed i h k = absurd (not-suc-le-zero h)
+matches-last (r ∷ row) [] placed i h k = absurd (not-suc-le-zero k)
+matches-last (r ∷ row) (f ∷ features) placed zero h k = and-true _
+matches-last (r ∷ row) (f ∷ features) placed (suc i) h k =
+    rw (matches-last row features placed i (le-of-suc-le-suc h) (le-of-suc-le-suc k), and-assoc)
+
 pub matches-step : (row features placed : List ℕ) (i : ℕ) → i < length row → i < length features
     → getD row i 0 ≡ optionAt placed (getD features i 0)
     → matches (take (suc i) row) (map (optionAt placed) (take (suc i) features))
     ≡ matches (take i row) (map (optionAt placed) (take i features))
-unfolding matches
-matches-step [] features placed i h k e = absurd (not-suc-le-zero h)
-matches-step (r ∷ row) [] placed i h k e = absurd (not-suc-le-zero k)
-matches-step (r ∷ row) (f ∷ features) placed zero h k e = rw (eq-eqb _ _ e)
-matches-step (r ∷ row) (f ∷ features) placed (suc i) h k e =
-    rw (matches-step row features placed i (le-of-suc-le-suc h) (le-of-suc-le-suc k) e)
+matches-step row features placed i h k e = rw (eq-eqb _ _ e, and-true) at (matches-last row features placed i h k)
 
 pub matches-stop : (row features placed : List ℕ) (i : ℕ) → i < length row → i < length features
     → (getD row i 0 ≡ optionAt placed (getD features i 0) → ⊥)
     → matches (take (suc i) row) (map (optionAt placed) (take (suc i) features)) ≡ false
-unfolding matches
-matches-stop [] features placed i h k e = absurd (not-suc-le-zero h)
-matches-stop (r ∷ row) [] placed i h k e = absurd (not-suc-le-zero k)
-matches-stop (r ∷ row) (f ∷ features) placed zero h k e = rw (ne-eqb _ _ e)
-matches-stop (r ∷ row) (f ∷ features) placed (suc i) h k e =
-    rw (matches-stop row features placed i (le-of-suc-le-suc h) (le-of-suc-le-suc k) e, and-false)
+matches-stop row features placed i h k e = rw (ne-eqb _ _ e, and-false) at (matches-last row features placed i h k)
 
 pub matches-end : (row features placed : List ℕ) → matches (take 0 row) (map (optionAt placed) (take 0 features)) ≡ true
 unfolding matches
