@@ -9,11 +9,23 @@ use native.Mathlib.Omega.{arith}
 use Rattle.builds.specs.Catalogue.{Catalogue}
 use Rattle.builds.specs.Build.{Before, BuildWith, FirstWith}
 
+apart : {build again other same : List ℕ} → Before build other → Before same again → build ≡ again → other ≡ same → ⊥
+apart (Before.here {x = x} {y = y} h) (Before.here {x = v} {y = w} k) e f =
+    let front : x ≡ w = cc in
+    let back : y ≡ v = cc in
+    omega arith
+apart (Before.here {x = x} {y = y} h) (Before.later {x = v} k) e f =
+    let front : x ≡ v = cc in
+    let back : y ≡ v = cc in
+    omega arith
+apart (Before.later {x = x} h) (Before.here {x = v} {y = w} k) e f =
+    let front : x ≡ w = cc in
+    let back : x ≡ v = cc in
+    omega arith
+apart (Before.later {xs = xs} {ys = ys} h) (Before.later {xs = vs} {ys = ws} k) e f = apart h k (cc) (cc)
+
 pub not_both : {build other : List ℕ} → Before build other → Before other build → ⊥
-not_both (Before.here h) (Before.here k) = omega arith
-not_both (Before.here h) (Before.later k) = omega arith
-not_both (Before.later h) (Before.here k) = omega arith
-not_both (Before.later h) (Before.later k) = not_both h k
+not_both before after = apart before after refl refl
 
 -- none, as no build contains option a of feature i and keeps the choices; or the first that does
 pub data FirstIs (catalogue : Catalogue) (choices : List ℕ) (i a : ℕ) : Option (List ℕ) → Type 0 where

@@ -11,6 +11,7 @@ use Rattle.builds.proofs.Every.{EveryTwo, every_head, every_tail, every_weaken}
 
 module _ {A : Type 0} {P : A → Type 0} where
   pub every_entry : {x : A} {xs : List A} → Every P xs → Memᴰ x xs → P x
+  every_entry Every.none m = elim m [ ]
   every_entry (Every.also h hs) (Memᴰ.head e) = subst P (sym e) h
   every_entry (Every.also h hs) (Memᴰ.tail m) = every_entry hs m
 

@@ -122,7 +122,7 @@ module _ (build : List ℕ) (count : ℕ) where
 
 -- ---- of an accepted catalogue
 
-highest_known : {features : List ℕ} {count : ℕ} → 1 ≤ count → Every (λ (f : ℕ). f < count) features → highest features < count
+highest_known : {count : ℕ} {features : List ℕ} → 1 ≤ count → Every (λ (f : ℕ). f < count) features → highest features < count
 unfolding highest
 highest_known some Every.none = some
 highest_known some (Every.also h hs) = omega (arith, highest_known some hs)

@@ -1,1 +1,2 @@
 // No code: what the letter demands, stated in specs/ over the definitions that the calls' contracts cite.
+#![tactic(auto)]

@@ -2,14 +2,14 @@
 // (a refused open's is a fresh one).
 use crate::Desk;
 
-#[derive(Drop)]
+#[derive(Clone, Copy)]
 pub struct Changed {
     pub number: u8,
     pub desk: Desk,
 }
 
 // Of options and of alternatives.
-#[derive(Drop)]
+#[derive(Clone, Copy)]
 pub struct Left {
     pub number: u8,
     pub mask: u16, // bit a for option a
@@ -17,13 +17,13 @@ pub struct Left {
 }
 
 // Of ran_into.
-#[derive(Drop)]
+#[derive(Clone, Copy)]
 pub struct Ran {
     pub number: u8,
     pub rule: u8, // counted from 0; 255 for none; 0 where the call is refused
 }
 
-#[derive(Drop)]
+#[derive(Clone, Copy)]
 pub struct Turned {
     pub number: u8,
     pub made: u16,

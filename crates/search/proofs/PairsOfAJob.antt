@@ -1,7 +1,7 @@
 -- The pairs of a job are just those of an option that its feature has. A pair is looked for feature by feature: it is
 -- among the pairs of its own feature, as far as that feature has options, and of no other.
 use Prim.Native.Nat.{ℕ, zero, suc, ◌+◌, ◌<◌}
-use mathlib.Core.Path.{◌≡◌, refl, sym, ◌∙◌}
+use mathlib.Core.Path.{◌≡◌, refl, sym, ◌∙◌, ap}
 use mathlib.Core.Logic.{◌≢◌}
 use mathlib.Core.Bool.{Bool, true, false, ◌&&◌, ◌||◌, or-true}
 use mathlib.Core.List.{List, [], ◌∷◌, ◌++◌, map}
@@ -47,8 +47,9 @@ own_feature i s zero (suc count) later h =
     rw (eq-eqb i i refl, eq-eqb (s + 0) s (add-zero s)) (sym (lt-ltb 0 (suc count) (omega arith)))
 own_feature i s (suc d) (suc count) later h =
     let shifted : s + suc d ≡ suc s + d = omega arith in
-    rw (ne_eqb (s + suc d) s (omega arith), eq-eqb i i refl, shifted)
-    (own_feature i (suc s) d count later (rw (← shifted) h) ∙ sym (leb-suc-suc (suc d) count))
+    rw (ne_eqb (s + suc d) s (omega arith), eq-eqb i i refl)
+    (ap (λ (n : ℕ). among i n (pairs_of i (count_from (suc s) count) later)) shifted
+    ∙ own_feature i (suc s) d count later (rw (← shifted) h) ∙ sym (leb-suc-suc (suc d) count))
 
 earlier_feature : (i a j : ℕ) (sizes : List ℕ) → i < j → among i a (pairs_from j sizes) ≡ false
 unfolding among pairs_from

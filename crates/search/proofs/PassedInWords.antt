@@ -25,7 +25,7 @@ unfolding highest
 all_below [] j l = Every.none
 all_below (f ∷ features) j l = Every.also {x = f} (omega arith) (all_below features j (omega arith))
 
-highest_below : {features : List ℕ} {j : ℕ} → Every (λ (f : ℕ). f ≤ j) features → highest features ≤ j
+highest_below : {j : ℕ} {features : List ℕ} → Every (λ (f : ℕ). f ≤ j) features → highest features ≤ j
 unfolding highest
 highest_below Every.none = omega arith
 highest_below (Every.also h hs) = omega (arith, highest_below hs)

@@ -10,13 +10,10 @@ use Rattle.search.specs.declared.Seat.{Seat}
 use Rattle.search.specs.contracts.Seat as seat_type
 use Rattle.search.proofs.ClinicFits.{Sixteen}
 
-numbers : (xs : List ℕ) (n : ℕ) → length (map (λ (x : ℕ). x) xs) ≡ n → length xs ≡ n
-numbers xs n h = sym (length-map xs (λ (x : ℕ). x)) ∙ h
-
 pub one_seat : (seat : Seat) (value : List Val) → Is (seat_type.the_field).row ((seat_type.the_field).into seat) value → Sixteen seat
 one_seat seat value h = record {
-  all_choices = numbers seat.choices 16 h.1.1.1.0.1.0.1;
-  all_masks = numbers seat.masks 16 h.1.1.1.1.0.1.0.1;
-  all_entries = numbers seat.trial 16 h.1.1.1.1.1.0.1.0.1;
-  all_alternatives = numbers seat.alternatives 16 h.1.1.1.1.1.1.0.1.0.1;
+  all_choices = h.1.1.1.0.1.0.1;
+  all_masks = h.1.1.1.1.0.1.0.1;
+  all_entries = h.1.1.1.1.1.0.1.0.1;
+  all_alternatives = h.1.1.1.1.1.1.0.1.0.1;
 }

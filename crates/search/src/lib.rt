@@ -1,8 +1,9 @@
 // One clinic's record. No code: the written search over it, and the laws about it, stand in specs/ and proofs/.
+#![tactic(auto)]
 
 // Where a search stands: it looks for a build with `option` at `feature`, has placed options before `depth`, and
 // tries `next` there.
-#[derive(Drop)]
+#[derive(Clone, Copy)]
 pub struct Place {
     pub feature: u8,
     pub option: u8,
@@ -10,14 +11,14 @@ pub struct Place {
     pub next: u8,
 }
 
-#[derive(Drop)]
+#[derive(Clone, Copy)]
 pub enum State {
     Closed,
     Ready,
     AtWork(Place),
 }
 
-#[derive(Drop)]
+#[derive(Clone, Copy)]
 pub struct Seat {
     pub state: State,
     pub choices: [u8; 16], // the option chosen for each feature; 255 for none
