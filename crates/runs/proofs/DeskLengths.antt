@@ -18,7 +18,7 @@ use Rattle.search.proofs.ClinicFits.{Sixteen}
 use Rattle.search.proofs.RecordLengths.{one_seat}
 
 each_seat : (seats : List Seat) (values : List Val)
-    → shadow (each (seat_type.the_field).row.Denot (seat_type.the_field).row.own_val (map (seat_type.the_field).into seats) values)
+    → shadow (each (seat_type.the_row).Denot (seat_type.the_row).own_val seats values)
     → (c : ℕ) → c < length seats → Sixteen (get_or seats c no_seat)
 each_seat [] [] h c l = absurd (omega arith)
 each_seat [] (value ∷ values) h c l = absurd h
@@ -27,7 +27,7 @@ each_seat (seat ∷ seats) (value ∷ values) h zero l = one_seat seat (value �
 each_seat (seat ∷ seats) (value ∷ values) h (suc c) l = each_seat seats values h.1 c (omega arith)
 
 pub eight_seats_lem : (desk : Desk) (value : List Val) → Is desk_type.the_row desk value → length desk.seats ≡ 8
-eight_seats_lem desk value h = sym (length-map desk.seats (seat_type.the_field).into) ∙ h.1.1.0.1.0.1
+eight_seats_lem desk value h = h.1.1.0.1.0.1
 
 pub sixteen_each : (desk : Desk) (value : List Val) → Is desk_type.the_row desk value
     → (c : ℕ) → c < 8 → Sixteen (get_or desk.seats c no_seat)

@@ -30,6 +30,7 @@ module _ {Holds : ℕ → Type 0} where
       Rising.next_row {last = last} 0 n (omega arith) (λ some. absurd (some refl)) later
 
   rises : {last e : ℕ} {rows : List ℕ} → Rising Holds last rows → e ≢ 0 → Memᴰ e rows → last < e
+  rises Rising.no_row some m = elim m [ ]
   rises (Rising.next_row x upto far row later) some (Memᴰ.head same) = omega (arith, (row (λ z. some (same ∙ z))).0)
   rises (Rising.next_row x upto far row later) some (Memᴰ.tail m) = omega (arith, rises later some m)
 
@@ -40,6 +41,7 @@ module _ {Holds : ℕ → Type 0} where
 
   first_least : {last e : ℕ} {rows : List ℕ} → Rising Holds last rows → e ≢ 0 → Memᴰ e rows
       → (1 ≤ first rows) × (first rows ≤ e)
+  first_least Rising.no_row some m = elim m [ ]
   first_least (Rising.next_row zero upto far row later) some (Memᴰ.head same) = absurd (some same)
   first_least (Rising.next_row zero upto far row later) some (Memᴰ.tail m) = first_least later some m
   first_least (Rising.next_row (suc x) upto far row later) some (Memᴰ.head same) = (omega arith, omega arith)

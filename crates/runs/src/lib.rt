@@ -1,6 +1,7 @@
 // The desk, what a seat may ask of it, and what its calls answer. No code: calls, table, turns and runs stand in specs/,
 // the laws about them in proofs/.
 #![tactic(auto)]
+
 mod answers;
 
 pub use answers::{Changed, Left, Ran, Turned};
