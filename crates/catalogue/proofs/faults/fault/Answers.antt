@@ -3,13 +3,11 @@ use Prim.Native.Nat.{ℕ, ◌≤◌, ◌<◌}
 use mathlib.Core.Path.{◌≡◌, sym, ◌∙◌}
 use mathlib.Core.List.{List}
 use native.Mathlib.Omega.{arith}
-use borrow.Author.Rules.{rules}
 use borrow.Author.Tests.{lt-ltb, le-ltb, le-leb, lt-leb}
 use lib.ListN.{length}
 use Rattle.builds.specs.Fault.{fault_of, sizes_fault, rules_fault}
 use Rattle.builds.proofs.ListWalks.{first_row, last_row}
-use Rattle.catalogue.proofs.faults.fault.Statement.{statement}
-use Rattle.catalogue.proofs.faults.fault.Tie as tie
+use Rattle.catalogue.proofs.faults.fault.Goals as goal
 
 module _ (sizes list : List ℕ) where
   no_feature : length sizes ≡ 0 → fault_of (record { sizes = sizes; list = list }) ≡ 10
@@ -37,52 +35,34 @@ module _ (sizes list : List ℕ) where
     rules_left none fits =
         rw (le-leb 1 (length sizes) low, le-leb (length sizes) 16 high, none, le-ltb 8192 (length list) fits, last_row)
 
-returns : tie.Need-returns
-returns c =
-    let start = c.before.before.before.args in
-    sym (no_feature start.sizes.now start.rules.now c.if1.true)
+pub returns-then-sizes-eq0 : goal.returns-then-sizes-eq0
+returns-then-sizes-eq0 c =
+    let start = c.args in
+    sym (no_feature start.sizes.now start.rules.now c.if-sizes-eq0.true)
 
-returns-2 : tie.Need-returns-2
-returns-2 c =
-    let start = c.before.before.before.before.args in
-    sym (many_features start.sizes.now start.rules.now c.if2.true)
+pub returns-then-sizes-gt16 : goal.returns-then-sizes-gt16
+returns-then-sizes-gt16 c =
+    let start = c.args in
+    sym (many_features start.sizes.now start.rules.now c.if-sizes-gt16.true)
 
-sizes-fault-requires : tie.Need-sizes-fault-requires
-sizes-fault-requires c κs = search rules
+pub returns-then-of_sizes-ne0 : goal.returns-then-of_sizes-ne0
+returns-then-of_sizes-ne0 c =
+    let start = c.args in
+    let of-sizes = c.sizes_fault-of_sizes.ensures in
+    sym (bad_size start.sizes.now start.rules.now (omega arith) (omega arith) (λ none. c.if-of_sizes-ne0.true (of-sizes ∙ none)) ∙ sym of-sizes)
 
-returns-3 : tie.Need-returns-3
-returns-3 c =
-    let start = c.before.before.before.before.before.before.args in
-    let of-sizes = c.before.sizes-fault.ensures in
-    sym (bad_size start.sizes.now start.rules.now (omega arith) (omega arith) (λ none. c.if3.true (of-sizes ∙ none)) ∙ sym of-sizes)
-
-returns-4 : tie.Need-returns-4
-returns-4 c =
-    let start = c.before.before.before.before.before.before.before.args in
+pub returns-then-rules-gt8192 : goal.returns-then-rules-gt8192
+returns-then-rules-gt8192 c =
+    let start = c.args in
     sym
-    (long_list start.sizes.now start.rules.now (omega arith) (omega arith) (sym c.before.before.sizes-fault.ensures ∙ c.before.if3.false)
-    c.if4.true)
+    (long_list start.sizes.now start.rules.now (omega arith) (omega arith) (sym c.sizes_fault-of_sizes.ensures ∙ c.if-of_sizes-ne0.false)
+    c.if-rules-gt8192.true)
 
-rules-fault-requires : tie.Need-rules-fault-requires
-rules-fault-requires c κs = search rules
-
-returns-5 : tie.Need-returns-5
-returns-5 c =
-    let start = c.before.before.before.before.before.before.before.before.args in
-    c.rules-fault.ensures
+pub returns : goal.returns
+returns c =
+    let start = c.args in
+    c.rules_fault.ensures
     ∙ sym
     (rules_left start.sizes.now start.rules.now (omega arith) (omega arith)
-    (sym c.before.before.before.sizes-fault.ensures ∙ c.before.before.if3.false)
-    c.before.if4.false)
-
-pub fault_spec : {M : Type 1} → statement M
-fault_spec =
-    tie.close
-    (tie.spec
-    returns
-    returns-2
-    sizes-fault-requires
-    returns-3
-    returns-4
-    rules-fault-requires
-    returns-5)
+    (sym c.sizes_fault-of_sizes.ensures ∙ c.if-of_sizes-ne0.false)
+    c.if-rules-gt8192.false)
