@@ -4,15 +4,13 @@ use Prim.Native.Nat.{ℕ, zero, suc}
 use mathlib.Core.Path.{◌≡◌, refl, sym, ◌∙◌}
 use mathlib.Core.Bool.{Bool, true, false, cond, ◌&&◌, and-true, and-false}
 use mathlib.Core.List.{List}
-use borrow.Author.Rules.{rules}
 use borrow.Author.Tests.{not-true, not-false}
 use lib.Dec.{ltb, eqb}
 use lib.ListN.{get_or}
 use Rattle.builds.specs.Lists.{every_below}
 use Rattle.search.specs.RecordFits.{entry_fits}
 use Rattle.fit.specs.Inner.Trial.{rest_fits, placed_fits}
-use Rattle.fit.proofs.record.trial_fits.Statement.{statement}
-use Rattle.fit.proofs.record.trial_fits.Tie as tie
+use Rattle.fit.proofs.record.trial_fits.Goals as goal
 
 one_entry : (before rest placed option none : Bool)
     → (rest && placed && cond before option none)
@@ -33,28 +31,19 @@ halves sizes trial depth (suc n) =
     (one_entry (ltb n depth) (every_below n (rest_fits depth trial)) (every_below n (placed_fits sizes depth trial))
     (ltb (get_or trial n 255) (get_or sizes n 0)) (eqb (get_or trial n 255) 255))
 
-rest-empty-requires : tie.Need-rest-empty-requires
-rest-empty-requires c κs = search rules
+pub returns-then-not-rest_empty : goal.returns-then-not-rest_empty
+returns-then-not-rest_empty c =
+    let a = c.args in
+    rw (
+      halves a.sizes.now a.trial.now a.depth 16,
+      sym c.rest_empty.ensures ∙ not-true _ c.if-not-rest_empty.true-raw,
+    )
 
-returns : tie.Need-returns
+pub returns : goal.returns
 returns c =
-    let a = c.before.before.before.before.args in
+    let a = c.args in
     rw (
       halves a.sizes.now a.trial.now a.depth 16,
-      sym c.before.rest-empty.ensures ∙ not-true _ c.if1.true,
+      sym c.rest_empty.ensures ∙ not-false _ c.if-not-rest_empty.false-raw,
     )
-
-placed-fit-requires : tie.Need-placed-fit-requires
-placed-fit-requires c κs = search rules
-
-returns-2 : tie.Need-returns-2
-returns-2 c =
-    let a = c.before.before.before.before.before.args in
-    rw (
-      halves a.sizes.now a.trial.now a.depth 16,
-      sym c.before.before.rest-empty.ensures ∙ not-false _ c.before.if1.false,
-    )
-    c.placed-fit.ensures
-
-pub trial_fits_spec : {M : Type 1} → statement M
-trial_fits_spec = tie.close (tie.spec rest-empty-requires returns placed-fit-requires returns-2)
+    c.placed_fit.ensures
