@@ -1,6 +1,7 @@
 // The commands: their words, their forms, and which numbers each takes.
 ghost use Rattle.std.specs.Prelude.{◌≤◌};
 
+use crate::console::Console;
 use crate::reading::{Stretch, between, end_of, same};
 use crate::writing::text;
 
@@ -119,7 +120,7 @@ pub const EXIT: usize = 35;
 pub const NONE: usize = 36;
 
 // A command, and where its form stands.
-#[derive(Drop)]
+#[derive(Clone, Copy)]
 pub struct Form {
     pub command: usize,
     pub from: usize,
@@ -156,9 +157,9 @@ fn begins(form: &[u8], word: &[u8]) -> bool {
     same(between(form, 0, end), word)
 }
 
-pub fn write_form(form: Form) {
+pub fn write_form(console: &Console, form: Form) {
     let forms = FORMS;
-    text(between(&forms, form.from, form.to));
+    text(console, between(&forms, form.from, form.to));
 }
 
 // Whether there are as many numbers as the command takes, and each is in its range. That a place is on the board and

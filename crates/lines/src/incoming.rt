@@ -1,6 +1,7 @@
 // A line as it comes in.
+use crate::console::Console;
 use crate::writing::report;
-use libc::{STDIN_FILENO, STDOUT_FILENO};
+use std::io::{IsTerminal, Read};
 
 pub const LONGEST: usize = 65536;
 
@@ -8,32 +9,34 @@ pub const LONGEST: usize = 65536;
 pub const TYPED: usize = 4095;
 
 // A read that fails counts as the end, and is reported.
-pub fn read_some(fd: i32, chunk: &mut [u8]) -> usize {
-    let got = libc::read(fd, chunk);
-    if got < 0 {
-        report(b"unread\n");
+pub fn read_some<R: Read>(console: &Console, from: &mut R, chunk: &mut [u8]) -> usize {
+    match from.read(chunk) {
+        Ok(count) => count,
+        Err(_) => {
+            report(console, b"unread\n");
+            0
+        }
     }
-    io::count(got, chunk)
 }
 
-// The descriptor where the program that runs the console asks it to stop, if that program opened it.
-const STOP: i32 = 8;
-
-// Takes what is there.
-pub fn asked_to_stop() -> bool {
+// Whether the program that runs the console asks it to stop. Takes what is there.
+pub fn asked_to_stop(console: &Console) -> bool {
     let mut bytes = [0u8; 64];
-    libc::read(STOP, &mut bytes) > 0
+    match &console.stops {
+        Some(file) => {
+            let mut from = file;
+            match from.read(&mut bytes) {
+                Ok(count) => 0 < count,
+                Err(_) => false,
+            }
+        }
+        None => false,
+    }
 }
 
-// Whether a person types: what comes from this descriptor and what is written are a terminal's.
-pub fn is_person(fd: i32) -> bool {
-    if fd != STDIN_FILENO {
-        return false;
-    }
-    if libc::isatty(fd) != 1 {
-        return false;
-    }
-    libc::isatty(STDOUT_FILENO) == 1
+// Whether a person types: standard input and what is written are a terminal's.
+pub fn is_person(console: &Console) -> bool {
+    console.input.is_terminal() && console.output.is_terminal()
 }
 
 // Bytes put to the end of a line; answers its length.

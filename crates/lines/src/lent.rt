@@ -1,9 +1,10 @@
 // A line's numbers, put into the lent memory.
+use crate::console::Console;
 use crate::reading::least;
 use crate::writing::text;
 
-pub fn set_byte(board: &mut [u8], place: u32, value: u32) {
-    text(b"set\n");
+pub fn set_byte(console: &Console, board: &mut [u8], place: u32, value: u32) {
+    text(console, b"set\n");
     let p = place as usize;
     if board.len() <= p {
         return;

@@ -15,7 +15,7 @@ pub fn between(all: &[u8], from: usize, to: usize) -> &[u8] {
 }
 
 // What a stretch of bytes is made of.
-#[derive(Drop)]
+#[derive(Clone, Copy)]
 pub enum Stretch {
     Blanks,
     Word,
@@ -65,13 +65,13 @@ pub fn same(a: &[u8], b: &[u8]) -> bool {
 }
 
 // What the numbers of a line are.
-#[derive(Drop)]
+#[derive(Clone, Copy)]
 pub enum Numbers {
     Count(usize),
     Wrong,
 }
 
-#[derive(Drop)]
+#[derive(Clone, Copy)]
 enum Number {
     Value(u32),
     Wrong,

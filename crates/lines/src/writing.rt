@@ -1,56 +1,64 @@
 // What the console writes.
+use crate::console::Console;
 use crate::reading::between;
-use libc::STDOUT_FILENO;
+use itoa::Buffer;
+use std::io;
+use std::io::Write;
 
-// The descriptor where the program that runs the console is told how it goes, if that program opened it.
-const REPORT: i32 = 9;
+pub fn text(console: &Console, words: &[u8]) {
+    note(console, console.output.write_all(words));
+}
 
-pub fn text(words: &[u8]) {
-    if !io::write_all(STDOUT_FILENO, words) {
-        report(b"lost\n");
+pub fn number(console: &Console, n: u64) {
+    note(console, print!(console.output; "{n}"));
+}
+
+pub fn hexadecimal(console: &Console, n: u64) {
+    note(console, print!(console.output; "{n:016x}"));
+}
+
+// What could not be written is lost, and is reported.
+fn note(console: &Console, written: io::Result<()>) {
+    if written.is_err() {
+        report(console, b"lost\n");
     }
 }
 
-pub fn number(n: u64) {
-    if !io::print_decimal(STDOUT_FILENO, n) {
-        report(b"lost\n");
+// A report that can't be written is dropped.
+pub fn report(console: &Console, words: &[u8]) {
+    if let Some(file) = &console.reports {
+        let mut to = file;
+        let _ = to.write_all(words);
     }
 }
 
-pub fn hexadecimal(n: u64) {
-    if !io::print_hex(STDOUT_FILENO, n, 16) {
-        report(b"lost\n");
+pub fn report_number(console: &Console, word: &[u8], n: u64) {
+    report(console, word);
+    if let Some(file) = &console.reports {
+        let mut to = file;
+        let _ = write!(to, "{n}");
     }
-}
-
-pub fn report(words: &[u8]) {
-    io::write_all(REPORT, words);
-}
-
-pub fn report_number(word: &[u8], n: u64) {
-    report(word);
-    io::print_decimal(REPORT, n);
-    report(b"\n");
+    report(console, b"\n");
 }
 
 // Words around a number.
-pub fn around(before: &[u8], n: u64, after: &[u8]) {
-    text(before);
-    number(n);
-    text(after);
+pub fn around(console: &Console, before: &[u8], n: u64, after: &[u8]) {
+    text(console, before);
+    number(console, n);
+    text(console, after);
 }
 
 // So many of something: `1 rule`, `2 rules`.
-pub fn counted(n: u64, what: &[u8]) {
-    around(b"", n, b" ");
-    text(what);
+pub fn counted(console: &Console, n: u64, what: &[u8]) {
+    around(console, b"", n, b" ");
+    text(console, what);
     if n != 1 {
-        text(b"s");
+        text(console, b"s");
     }
 }
 
 // Bytes with a blank before each; `-` stands for 255.
-pub fn entries(all: &[u8]) {
+pub fn entries(console: &Console, all: &[u8]) {
     let mut out = [0u8; 128];
     let mut at = 0usize;
     let mut i = 0usize;
@@ -58,11 +66,11 @@ pub fn entries(all: &[u8]) {
         at = put_entry(&mut out, at, all[i]);
         i += 1;
     }
-    text(between(&out, 0, at));
+    text(console, between(&out, 0, at));
 }
 
 // Masks with a blank before each.
-pub fn masks(all: &[u16]) {
+pub fn masks(console: &Console, all: &[u16]) {
     let mut out = [0u8; 128];
     let mut at = 0usize;
     let mut i = 0usize;
@@ -70,7 +78,7 @@ pub fn masks(all: &[u16]) {
         at = put_number(&mut out, at, wide(all[i]));
         i += 1;
     }
-    text(between(&out, 0, at));
+    text(console, between(&out, 0, at));
 }
 
 fn put_entry(out: &mut [u8], at: usize, entry: u8) -> usize {
@@ -81,10 +89,9 @@ fn put_entry(out: &mut [u8], at: usize, entry: u8) -> usize {
 }
 
 fn put_number(out: &mut [u8], at: usize, n: u64) -> usize {
-    let mut digits = [0u8; 20];
-    let count = io::decimal(n, &mut digits);
+    let mut digits = Buffer::new();
     let after = put(out, at, b" ");
-    put(out, after, &digits[..count])
+    put(out, after, digits.format(n).as_bytes())
 }
 
 // Puts bytes at a place, as many as there is room for, and answers the place after them.

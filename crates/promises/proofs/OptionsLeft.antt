@@ -10,7 +10,7 @@ use native.Mathlib.Omega.{arith}
 use lib.ListN.{length, get_or, replicate}
 use borrow.Author.Tests.{lt-ltb, le-ltb, ne_eqb}
 use Rattle.builds.specs.Catalogue.{Catalogue, size_of}
-use Rattle.builds.specs.Checks.{when, first as first-number}
+use Rattle.builds.specs.Checks.{when, first as first_number}
 use Rattle.builds.specs.Lists.{member}
 use Rattle.builds.specs.Fault.{fault_of}
 use Rattle.builds.specs.Rule.{option_at}
@@ -40,7 +40,7 @@ use Rattle.promises.proofs.RefusedOpening.{never_ready}
 use Rattle.promises.proofs.KeptChoices.{Kept, no_choice, by_build, kept_fit}
 use Rattle.promises.proofs.Reached.{Ended, mask_at_end, alternatives_at_end, ended_at}
 
-last_row : (left : Bool) → first-number (when (not left) 37 ∷ []) ≡ when (not left) 37
+last_row : (left : Bool) → first_number (when (not left) 37 ∷ []) ≡ when (not left) 37
 last_row true = refl
 last_row false = refl
 

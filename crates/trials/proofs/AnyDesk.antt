@@ -20,7 +20,7 @@ use Rattle.runs.proofs.Computing.{computing}
 use Rattle.promises.specs.Moment.{seat_in}
 use Rattle.promises.specs.Whole.{Whole}
 use Rattle.promises.specs.Askings.{EveryAsking}
-use Rattle.promises.proofs.Askings.{every_asking as proved-every-asking}
+use Rattle.promises.proofs.Askings.{every_asking as proved_every_asking}
 use Rattle.trials.proofs.Desks.{room_of, whole_room, marked, settled, stale}
 use Rattle.trials.proofs.Places.{at_place, searching}
 
@@ -132,55 +132,55 @@ stay demand = (demand single by_hand whole 2).others_stay Enter 0 (lit< tt) (λ 
 
 pub bit_shown : (perform single (asks 0 (Read (Options 0))) by_hand).answer
     ≡ record { number = 0; mask = 1; count = 1; bytes = []; made = 0; working = false; rule = 0 }
-bit_shown = shows proved-every-asking
+bit_shown = shows proved_every_asking
 
 pub bytes_as_they_stand : (perform single (asks 0 (Read (Example 0 0))) by_hand).answer
     ≡ record { number = 0; mask = 0; count = 0; bytes = replicate 16 255; made = 0; working = false; rule = 0 }
-bytes_as_they_stand = beside proved-every-asking
+bytes_as_they_stand = beside proved_every_asking
 
 pub reading_changes_nothing : (reading : Reading) → (perform single (asks 0 (Read reading)) by_hand).room ≡ by_hand
-reading_changes_nothing = reading_leaves proved-every-asking
+reading_changes_nothing = reading_leaves proved_every_asking
 
 pub stale_shown : (perform trolley (asks 1 (Read (Options 2))) (room_of stale stale 0)).answer
     ≡ record { number = 0; mask = 3; count = 2; bytes = []; made = 0; working = false; rule = 0 }
-stale_shown = shows_stale proved-every-asking
+stale_shown = shows_stale proved_every_asking
 
 pub stale_alternative : (perform trolley (asks 1 (Read (Alternatives 2))) (room_of stale stale 0)).answer
     ≡ record { number = 0; mask = 2; count = 1; bytes = []; made = 0; working = false; rule = 0 }
-stale_alternative = replaces_stale proved-every-asking
+stale_alternative = replaces_stale proved_every_asking
 
 pub alternative_dropped : has_bit (get_or (seat_in (perform trolley (asks 1 (Relax 2)) (room_of stale stale 0)).room 1).alternatives 2 0) 1 ≡ true → ⊥
-alternative_dropped = drops_stale proved-every-asking
+alternative_dropped = drops_stale proved_every_asking
 
 pub in_force_posted : has_bit (get_or (seat_in (perform trolley (asks 1 (Choose 0 2)) (room_of stale stale 0)).room 1).alternatives 0 0) 2 ≡ true
-in_force_posted = posts_stale proved-every-asking
+in_force_posted = posts_stale proved_every_asking
 
 pub rule_as_it_stands : ((perform trolley (asks 0 (Read RanInto)) made_up).answer
     ≡ record { number = 0; mask = 0; count = 0; bytes = []; made = 0; working = false; rule = 1 })
     × ((perform trolley (asks 1 (Read RanInto)) made_up).answer
     ≡ record { number = 0; mask = 0; count = 0; bytes = []; made = 0; working = false; rule = 255 })
-rule_as_it_stands = tells proved-every-asking
+rule_as_it_stands = tells proved_every_asking
 
 pub rule_gone : (seat_in (perform trolley (asks 0 Leave) made_up).room 0).broken ≡ 255
-rule_gone = forgets proved-every-asking
+rule_gone = forgets proved_every_asking
 
 pub entered_at_work : (seat_in (perform single (asks 2 Enter) by_hand).room 2).state
     ≡ AtWork (record { feature = 0; option = 0; depth = 0; next = 0 })
-entered_at_work = enters proved-every-asking
+entered_at_work = enters proved_every_asking
 
 pub choice_set : ((seat_in (perform single (asks 0 (Choose 0 0)) by_hand).room 0).choices ≡ 0 ∷ replicate 15 255)
     × ((seat_in (perform single (asks 0 (Choose 0 0)) by_hand).room 0).masks ≡ replicate 16 0)
-choice_set = sets proved-every-asking
+choice_set = sets proved_every_asking
 
 pub choice_dropped : ((seat_in (perform single (asks 1 (Relax 0)) by_hand).room 1).choices ≡ replicate 16 255)
     × ((seat_in (perform single (asks 1 (Relax 0)) by_hand).room 1).trial ≡ replicate 16 255)
     × ((clinic_at (perform single (asks 1 (Relax 0)) by_hand).room 1).share ≡ replicate 4096 255)
-choice_dropped = drops proved-every-asking
+choice_dropped = drops proved_every_asking
 
 pub left_closed : ((seat_in (perform single (asks 1 Leave) by_hand).room 1).state ≡ Closed)
     × ((seat_in (perform single (asks 1 Leave) by_hand).room 1).choices ≡ replicate 16 255)
-left_closed = leaves proved-every-asking
+left_closed = leaves proved_every_asking
 
 pub seat_0_stays : (clinic_at (perform single (asks 2 Enter) by_hand).room 0 ≡ clinic_at by_hand 0)
     × ((perform single (asks 2 Enter) by_hand).room.desk.next ≡ by_hand.desk.next)
-seat_0_stays = stay proved-every-asking
+seat_0_stays = stay proved_every_asking

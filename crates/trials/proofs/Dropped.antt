@@ -21,9 +21,9 @@ use Rattle.promises.specs.Moment.{moment, seat_in}
 use Rattle.promises.specs.Whole.{Whole}
 use Rattle.promises.specs.Askings.{EveryAsking}
 use Rattle.promises.specs.Jobs.{PostsJob, Quiet, Job, EveryJob}
-use Rattle.promises.proofs.Jobs.{every_job as proved-every-job}
-use Rattle.promises.proofs.Askings.{every_asking as proved-every-asking}
-use Rattle.promises.proofs.Throughout.{every_moment as proved-every-moment}
+use Rattle.promises.proofs.Jobs.{every_job as proved_every_job}
+use Rattle.promises.proofs.Askings.{every_asking as proved_every_asking}
+use Rattle.promises.proofs.Throughout.{every_moment as proved_every_moment}
 use Rattle.trials.proofs.Runs.{board, opens, opens_single, ready, chosen, is_ready_again, in_force_lem, feature, chosen_single}
 use Rattle.trials.proofs.Waits.{sum_39}
 
@@ -36,13 +36,13 @@ has_choice e = let none : ◌≡◌ {A = ℕ} 0 255 = rw in_force_lem at e in om
 
 relaxes : (perform trolley (asks 0 (Relax 2)) (moment trolley board chosen)).answer.number ≡ 0
 relaxes =
-    (((proved-every-moment trolley board chosen).opened opens 0 (lit< tt)).possible.ready is_ready_again 2 (feature 2 (lit< tt))
+    (((proved_every_moment trolley board chosen).opened opens 0 (lit< tt)).possible.ready is_ready_again 2 (feature 2 (lit< tt))
     ).relax has_choice
 
 under_none_again : (seat_in after_relax 0).choices ≡ nothing16
 under_none_again =
-    let whole = ((proved-every-moment trolley board chosen).opened opens 0 (lit< tt)).whole in
-    let left = ((proved-every-asking trolley (moment trolley board chosen) whole 0).relaxed 2 relaxes).choices_are in
+    let whole = ((proved_every_moment trolley board chosen).opened opens 0 (lit< tt)).whole in
+    let left = ((proved_every_asking trolley (moment trolley board chosen) whole 0).relaxed 2 relaxes).choices_are in
     rw in_force_lem at left
 
 relaxing : EveryJob → Job trolley after_relax 0
@@ -85,7 +85,7 @@ whole_single : Whole (perform single (turns 1) relaxed_single).room
 unfolding chosen_single moment after_calls
 whole_single =
     let calls : List Call = asks 0 Enter ∷ turns 1 ∷ asks 0 (Choose 0 0) ∷ turns 1 ∷ asks 0 (Relax 0) ∷ turns 1 ∷ [] in
-    ((proved-every-moment single board calls).opened opens_single 0 (lit< tt)).whole
+    ((proved_every_moment single board calls).opened opens_single 0 (lit< tt)).whole
 
 reads : EveryAsking → Quiet single 0 relaxed_single then_read
 unfolding then_read
@@ -105,10 +105,10 @@ still_ready jobs asked =
 -- ---- and so
 
 pub ready_after_relax : (seat_in (after_calls trolley (turns 312 ∷ []) after_relax) 0).state ≡ Ready
-ready_after_relax = waits_312 proved-every-job
+ready_after_relax = waits_312 proved_every_job
 
 pub ready_when_all_given : (seat_in (after_calls single (turns 1 ∷ []) relaxed_single) 0).state ≡ Ready
-ready_when_all_given = given_all proved-every-job
+ready_when_all_given = given_all proved_every_job
 
 pub ready_and_read : (seat_in (after_calls single then_read relaxed_single) 0).state ≡ Ready
-ready_and_read = still_ready proved-every-job proved-every-asking
+ready_and_read = still_ready proved_every_job proved_every_asking

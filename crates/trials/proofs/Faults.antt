@@ -16,8 +16,8 @@ use Rattle.runs.specs.PaperTable.{FirstOf, OpenSentence, Sentence}
 use Rattle.runs.proofs.Computing.{computing}
 use Rattle.promises.specs.Openings.{EveryOpening}
 use Rattle.promises.specs.Refusals.{Refusals}
-use Rattle.promises.proofs.Openings.{every_opening as proved-every-opening}
-use Rattle.promises.proofs.Refusals.{refusals as proved-refusals}
+use Rattle.promises.proofs.Openings.{every_opening as proved_every_opening}
+use Rattle.promises.proofs.Refusals.{refusals as proved_refusals}
 use Rattle.trials.proofs.Runs.{board}
 use Rattle.trials.proofs.FaultyCatalogues.{catalogue_of, with_rules, many, fault_10, fault_11, fault_12, fault_13, fault_14_header, fault_14_features, fault_14_rows, fault_15, fault_16, fault_17, fault_18, no_fault}
 use Rattle.trials.proofs.NoEarlier.{open_positive, positive}
@@ -111,36 +111,36 @@ met_11 openings = told_fault (((openings (catalogue_of (3 ∷ 0 ∷ []) []) boar
 
 pub short_board_1 : ((opening trolley []).answer.number ≡ 1)
     × ((perform trolley (turns 3) (record { desk = fresh_desk; board = [] })).answer.number ≡ 1)
-short_board_1 = short_board proved-every-opening proved-refusals
+short_board_1 = short_board proved_every_opening proved_refusals
 
 pub sizes_refused : Refused (catalogue_of [] []) 10 × Refused (catalogue_of (3 ∷ 0 ∷ []) []) 11
-sizes_refused = (refused_by proved-every-opening proved-refusals _ fault_10, refused_by proved-every-opening proved-refusals _ fault_11)
+sizes_refused = (refused_by proved_every_opening proved_refusals _ fault_10, refused_by proved_every_opening proved_refusals _ fault_11)
 
 pub number_11_told : FaultMet (catalogue_of (3 ∷ 0 ∷ []) []) 11
-number_11_told = met_11 proved-every-opening
+number_11_told = met_11 proved_every_opening
 
 pub long_list_refused : Refused (catalogue_of (3 ∷ []) (replicate 8193 0)) 12
-long_list_refused = refused_by proved-every-opening proved-refusals _ fault_12
+long_list_refused = refused_by proved_every_opening proved_refusals _ fault_12
 
 pub many_rules_refused : Refused (with_rules (many 64)) 13
-many_rules_refused = refused_by proved-every-opening proved-refusals _ fault_13
+many_rules_refused = refused_by proved_every_opening proved_refusals _ fault_13
 
 pub cut_short_refused : Refused (with_rules (1 ∷ [])) 14 × Refused (with_rules (2 ∷ 0 ∷ 0 ∷ [])) 14
     × Refused (with_rules (1 ∷ 2 ∷ 0 ∷ 2 ∷ [])) 14
 cut_short_refused = (
-  refused_by proved-every-opening proved-refusals _ fault_14_header,
-  refused_by proved-every-opening proved-refusals _ fault_14_features,
-  refused_by proved-every-opening proved-refusals _ fault_14_rows,
+  refused_by proved_every_opening proved_refusals _ fault_14_header,
+  refused_by proved_every_opening proved_refusals _ fault_14_features,
+  refused_by proved_every_opening proved_refusals _ fault_14_rows,
 )
 
 pub arity_refused : Refused (with_rules (7 ∷ 0 ∷ [])) 15
-arity_refused = refused_by proved-every-opening proved-refusals _ fault_15
+arity_refused = refused_by proved_every_opening proved_refusals _ fault_15
 
 pub features_refused : Refused (with_rules (1 ∷ 0 ∷ 1 ∷ [])) 16 × Refused (with_rules (2 ∷ 0 ∷ 0 ∷ 0 ∷ [])) 17
-features_refused = (refused_by proved-every-opening proved-refusals _ fault_16, refused_by proved-every-opening proved-refusals _ fault_17)
+features_refused = (refused_by proved_every_opening proved_refusals _ fault_16, refused_by proved_every_opening proved_refusals _ fault_17)
 
 pub row_refused : Refused (with_rules (1 ∷ 1 ∷ 0 ∷ 3 ∷ [])) 18
-row_refused = refused_by proved-every-opening proved-refusals _ fault_18
+row_refused = refused_by proved_every_opening proved_refusals _ fault_18
 
 pub one_rule_opens : (opening (with_rules (1 ∷ 1 ∷ 0 ∷ 2 ∷ [])) board).answer.number ≡ 0
-one_rule_opens = accepted_by proved-every-opening (with_rules (1 ∷ 1 ∷ 0 ∷ 2 ∷ [])) no_fault
+one_rule_opens = accepted_by proved_every_opening (with_rules (1 ∷ 1 ∷ 0 ∷ 2 ∷ [])) no_fault

@@ -18,7 +18,7 @@ use Rattle.runs.specs.Call.{turns}
 use Rattle.runs.specs.Perform.{perform}
 use Rattle.runs.proofs.Computing.{computing}
 use Rattle.promises.specs.Turns.{EveryTurns}
-use Rattle.promises.proofs.Turns.{every_turns as proved-every-turns}
+use Rattle.promises.proofs.Turns.{every_turns as proved_every_turns}
 use Rattle.trials.proofs.Desks.{room_of}
 use Rattle.trials.proofs.Places.{at_place, searching, before, by_rules, own_alone, all_options, to_next_option}
 use Rattle.trials.proofs.Rules.{not_of_A}
@@ -175,14 +175,14 @@ pub next_greater_tried : ((step trolley (before broken)).seat.state ≡ AtWork (
     × ((step trolley (before broken)).share ≡ (before broken).share)
     × ((step trolley (before broken)).seat.alternatives ≡ replicate 16 0)
     × ((step trolley (before broken)).seat.broken ≡ 0)
-next_greater_tried = next_greater proved-every-turns
+next_greater_tried = next_greater proved_every_turns
 
 pub back_to_depth_1 : ((step trolley (before dead_end)).seat.state ≡ AtWork (at_place 2 0 1 2))
     × ((step trolley (before dead_end)).seat.trial ≡ 0 ∷ replicate 15 255)
     × ((step trolley (before dead_end)).seat.broken ≡ 1)
-back_to_depth_1 = back proved-every-turns
+back_to_depth_1 = back proved_every_turns
 
 pub pair_without_example : ((step trolley (before exhausted)).seat.state ≡ AtWork (at_place 0 1 0 1))
     × ((step trolley (before exhausted)).seat.masks ≡ replicate 16 0)
     × ((step trolley (before exhausted)).seat.broken ≡ 0)
-pair_without_example = ends proved-every-turns
+pair_without_example = ends proved_every_turns

@@ -13,7 +13,7 @@ use Rattle.runs.specs.Room.{Room}
 use Rattle.runs.specs.Call.{turns, Answer, refused, answers}
 use Rattle.runs.specs.Perform.{Outcome, rule_answer, perform, performed}
 use Rattle.runs.specs.Answers.{ChangesTo, ReadsAs, RanAs, TurnsTo, BytesAre, BeginsAt, NumberIs, Lent}
-use Rattle.runs.proofs.Words.{lent as proved-lent}
+use Rattle.runs.proofs.Words.{lent as proved_lent}
 
 module _ (demand : Lent) (room : Room) where
   -- an answer with this room after it
@@ -63,4 +63,4 @@ module _ (demand : Lent) (room : Room) where
 -- and so, for one: a call that is refused with 31 answers 31
 pub answers_31 : (room : Room) (changed : Changed) (board : List ℕ)
     → ChangesTo (record { answer = refused 31; room = room }) changed board → changed.number ≡ 31
-answers_31 room changed board same = (refused_31 proved-lent room changed board same).0
+answers_31 room changed board same = (refused_31 proved_lent room changed board same).0

@@ -24,7 +24,7 @@ use Rattle.runs.specs.Perform.{perform}
 use Rattle.runs.specs.PaperTable.{FirstOf, OpenSentence, DeskMisfit, Sentence}
 use Rattle.runs.proofs.Computing.{computing}
 use Rattle.promises.specs.Refusals.{Refusals}
-use Rattle.promises.proofs.Refusals.{refusals as proved-refusals}
+use Rattle.promises.proofs.Refusals.{refusals as proved_refusals}
 use Rattle.trials.proofs.Desks.{room_of}
 use Rattle.trials.proofs.Places.{at_place}
 use Rattle.trials.proofs.Openings.{one_rule}
@@ -196,22 +196,22 @@ abbrev Gives20 : Seat → Type 0
 Gives20 seat = (perform trolley (turns 5) (room_of seat closed_seat 0)).answer.number ≡ 20
 
 pub next_above_7 : (perform trolley (turns 5) (room_of closed_seat closed_seat 8)).answer.number ≡ 20
-next_above_7 = next_8 proved-refusals (turns 5)
+next_above_7 = next_8 proved_refusals (turns 5)
 
 pub choices_misfit : Gives20 choosy × Gives20 beyond
 choices_misfit =
-    (misfit_20 proved-refusals choosy bad_choice (turns 5), misfit_20 proved-refusals beyond choice_beyond (turns 5))
+    (misfit_20 proved_refusals choosy bad_choice (turns 5), misfit_20 proved_refusals beyond choice_beyond (turns 5))
 
 pub bits_misfit : Gives20 masked × Gives20 masked_beyond
 bits_misfit =
-    (misfit_20 proved-refusals masked bad_bit (turns 5), misfit_20 proved-refusals masked_beyond bit_beyond (turns 5))
+    (misfit_20 proved_refusals masked bad_bit (turns 5), misfit_20 proved_refusals masked_beyond bit_beyond (turns 5))
 
 pub alternatives_misfit : Gives20 (replaced Ready (255 ∷ 255 ∷ 0 ∷ replicate 13 255) (0 ∷ 0 ∷ 4 ∷ replicate 13 0))
     × Gives20 (replaced Ready nothing16 (1 ∷ replicate 15 0)) × Gives20 (replaced Closed nothing16 (1 ∷ replicate 15 0))
 alternatives_misfit = (
-  misfit_20 proved-refusals _ bad_alternative (turns 5),
-  misfit_20 proved-refusals _ (unchosen_alternative Ready) (turns 5),
-  misfit_20 proved-refusals _ (unchosen_alternative Closed) (turns 5),
+  misfit_20 proved_refusals _ bad_alternative (turns 5),
+  misfit_20 proved_refusals _ (unchosen_alternative Ready) (turns 5),
+  misfit_20 proved_refusals _ (unchosen_alternative Closed) (turns 5),
 )
 
 pub places_misfit : Gives20 (seat_of (work 3 0 0 0) nothing16 no_option_left nothing16)
@@ -219,21 +219,21 @@ pub places_misfit : Gives20 (seat_of (work 3 0 0 0) nothing16 no_option_left not
     × Gives20 (seat_of (work 0 3 0 0) nothing16 no_option_left nothing16)
     × Gives20 (seat_of (work 0 0 2 2) nothing16 no_option_left (0 ∷ 1 ∷ replicate 14 255))
 places_misfit = (
-  misfit_20 proved-refusals _ bad_feature (turns 5),
-  misfit_20 proved-refusals _ bad_depth (turns 5),
-  misfit_20 proved-refusals _ bad_option (turns 5),
-  misfit_20 proved-refusals _ bad_next (turns 5),
+  misfit_20 proved_refusals _ bad_feature (turns 5),
+  misfit_20 proved_refusals _ bad_depth (turns 5),
+  misfit_20 proved_refusals _ bad_option (turns 5),
+  misfit_20 proved_refusals _ bad_next (turns 5),
 )
 
 pub trials_misfit : Gives20 (seat_of (work 0 0 1 0) nothing16 no_option_left nothing16)
     × Gives20 (seat_of Ready nothing16 no_option_left (0 ∷ replicate 15 255))
 trials_misfit =
-    (misfit_20 proved-refusals _ nothing_placed (turns 5), misfit_20 proved-refusals _ too_much_placed (turns 5))
+    (misfit_20 proved_refusals _ nothing_placed (turns 5), misfit_20 proved_refusals _ too_much_placed (turns 5))
 
 pub closed_misfit : Gives20 (seat_of Closed (0 ∷ replicate 15 255) no_option_left nothing16)
     × Gives20 (seat_of Closed nothing16 (1 ∷ replicate 15 0) nothing16)
 closed_misfit =
-    (misfit_20 proved-refusals _ closed_with_choice (turns 5), misfit_20 proved-refusals _ closed_with_bit (turns 5))
+    (misfit_20 proved_refusals _ closed_with_choice (turns 5), misfit_20 proved_refusals _ closed_with_bit (turns 5))
 
 -- both sides of the rule count, of 255 and of being at work: 20, or accepted
 abbrev OfRule : Catalogue → State → ℕ → ℕ → Type 0
@@ -243,11 +243,11 @@ OfRule catalogue state rule number =
 pub rules_misfit : OfRule single (work 0 0 0 0) 0 20 × OfRule one_rule (work 0 0 0 0) 1 20
     × OfRule one_rule (work 0 0 0 0) 254 20 × OfRule one_rule Closed 0 20 × OfRule one_rule Ready 0 20
 rules_misfit = (
-  seat_20 single no_fault_in_none proved-refusals _ no_rule_there (turns 5),
-  seat_20 one_rule no_fault_in_one proved-refusals _ no_second_rule (turns 5),
-  seat_20 one_rule no_fault_in_one proved-refusals _ no_rule_254 (turns 5),
-  seat_20 one_rule no_fault_in_one proved-refusals _ (rule_at_rest Closed refl) (turns 5),
-  seat_20 one_rule no_fault_in_one proved-refusals _ (rule_at_rest Ready refl) (turns 5),
+  seat_20 single no_fault_in_none proved_refusals _ no_rule_there (turns 5),
+  seat_20 one_rule no_fault_in_one proved_refusals _ no_second_rule (turns 5),
+  seat_20 one_rule no_fault_in_one proved_refusals _ no_rule_254 (turns 5),
+  seat_20 one_rule no_fault_in_one proved_refusals _ (rule_at_rest Closed refl) (turns 5),
+  seat_20 one_rule no_fault_in_one proved_refusals _ (rule_at_rest Ready refl) (turns 5),
 )
 
 pub rules_fit : OfRule single (work 0 0 0 0) 255 0 × OfRule one_rule (work 0 0 0 0) 0 0

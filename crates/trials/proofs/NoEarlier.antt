@@ -120,9 +120,11 @@ example_names NamesOption.example = (refl, refl)
 
 pub choose_feature : {i a f : ℕ} → NamesFeature (Choose i a) f → f ≡ i
 choose_feature (NamesFeature.with_option NamesOption.choose) = refl
+choose_feature (NamesFeature.with_choice named) = elim named [ ]
 
 pub example_feature : {i a f : ℕ} → NamesFeature (Read (Example i a)) f → f ≡ i
 example_feature (NamesFeature.with_option NamesOption.example) = refl
+example_feature (NamesFeature.with_choice named) = elim named [ ]
 
 abbrev is_read : Asking → Bool
 is_read Enter = false
@@ -137,7 +139,9 @@ example_no_choose e = false≢true (sym (ap is_read e))
 -- those that are for a feature with a choice name no option, and are not choose
 pub choice_feature : {asking : Asking} {i f : ℕ} → NamesChoice asking i → NamesFeature asking f → f ≡ i
 choice_feature NamesChoice.relax (NamesFeature.with_choice NamesChoice.relax) = refl
+choice_feature NamesChoice.relax (NamesFeature.with_option named) = elim named [ ]
 choice_feature NamesChoice.alternatives (NamesFeature.with_choice NamesChoice.alternatives) = refl
+choice_feature NamesChoice.alternatives (NamesFeature.with_option named) = elim named [ ]
 
 abbrev names_option : Asking → Bool
 names_option Enter = false

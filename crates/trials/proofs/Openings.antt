@@ -13,9 +13,9 @@ use Rattle.search.specs.Trolley.{trolley}
 use Rattle.runs.specs.Perform.{opening}
 use Rattle.promises.specs.Moment.{Opened}
 use Rattle.promises.specs.Refusals.{Refusals}
-use Rattle.promises.proofs.Refusals.{refusals as proved-refusals}
+use Rattle.promises.proofs.Refusals.{refusals as proved_refusals}
 use Rattle.promises.specs.Openings.{EveryOpening}
-use Rattle.promises.proofs.Openings.{every_opening as proved-every-opening}
+use Rattle.promises.proofs.Openings.{every_opening as proved_every_opening}
 use Rattle.trials.proofs.Runs.{board, opens}
 use Rattle.trials.proofs.FaultyCatalogues.{with_rules, two_alone, well_formed, fault_15}
 use Rattle.trials.proofs.Faults.{opening_refused}
@@ -85,19 +85,19 @@ catalogue_refused openings refusals =
 -- ---- and so
 
 pub one_rule_accepted : Opened one_rule board
-one_rule_accepted = accepts proved-every-opening
+one_rule_accepted = accepts proved_every_opening
 
 pub one_rule_meant : rules_of one_rule ≡ two_alone ∷ []
-one_rule_meant = means proved-every-opening
+one_rule_meant = means proved_every_opening
 
 pub short_board_refused : Opened trolley [] → ⊥
-short_board_refused = refuses proved-every-opening
+short_board_refused = refuses proved_every_opening
 
 pub trolley_as_described : Accepted trolley
-trolley_as_described = trolley_fits proved-every-opening
+trolley_as_described = trolley_fits proved_every_opening
 
 pub board_filled : (opening one_rule board).room.board ≡ replicate 32768 255
-board_filled = filled proved-every-opening
+board_filled = filled proved_every_opening
 
 pub seats_closed : (opening trolley []).room.desk ≡ record {
   seats = replicate 8 (record {
@@ -110,10 +110,10 @@ pub seats_closed : (opening trolley []).room.desk ≡ record {
   });
   next = 0;
 }
-seats_closed = closed proved-every-opening
+seats_closed = closed proved_every_opening
 
 pub short_board_kept : (opening trolley []).room.board ≡ []
-short_board_kept = as_it_came proved-every-opening
+short_board_kept = as_it_came proved_every_opening
 
 pub board_of_refused_catalogue : (opening (with_rules (7 ∷ 0 ∷ [])) board).room.board ≡ board
-board_of_refused_catalogue = catalogue_refused proved-every-opening proved-refusals
+board_of_refused_catalogue = catalogue_refused proved_every_opening proved_refusals

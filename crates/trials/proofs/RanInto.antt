@@ -23,9 +23,9 @@ use Rattle.runs.proofs.Computing.{computing}
 use Rattle.promises.specs.Moment.{moment, seat_in, IsDone}
 use Rattle.promises.specs.Jobs.{PostsJob, Quiet}
 use Rattle.promises.specs.RanInto.{RunsInto, AnswersRule, EveryRule}
-use Rattle.promises.proofs.RanInto.{every_rule as proved-every-rule}
+use Rattle.promises.proofs.RanInto.{every_rule as proved_every_rule}
 use Rattle.promises.specs.Throughout.{EveryMoment}
-use Rattle.promises.proofs.Throughout.{every_moment as proved-every-moment}
+use Rattle.promises.proofs.Throughout.{every_moment as proved_every_moment}
 use Rattle.trials.proofs.Runs.{board, opens, ready, is_ready}
 
 abbrev entered : Room
@@ -119,21 +119,21 @@ none_kept demand = ((demand trolley board ready).opened opens 0 (lit< tt)).in_a_
 -- ---- and so
 
 pub second_step_breaks_rule_0 : RunsInto trolley (steps trolley 1 start) 0
-second_step_breaks_rule_0 = second_fails proved-every-rule
+second_step_breaks_rule_0 = second_fails proved_every_rule
 
 pub third_step_follows : RunsInto trolley (steps trolley 2 start) 0 ⊎ ((rule : ℕ) → RunsInto trolley (steps trolley 2 start) rule → ⊥)
-third_step_follows = third_follows proved-every-rule
+third_step_follows = third_follows proved_every_rule
 
 -- however many turns are asked for
 pub always_answered : (w : ℕ) → (perform trolley (asks 0 (Read RanInto)) (after_calls trolley (turns w ∷ []) entered)).answer.number ≡ 0
-always_answered = is_answered proved-every-rule
+always_answered = is_answered proved_every_rule
 
 pub ready_answers_none : rule_after 39 ≡ 255
-ready_answers_none = none_when_ready proved-every-rule
+ready_answers_none = none_when_ready proved_every_rule
 
 pub always_one_of_two : (calls : List Call) → ((seat_in (moment trolley board calls) 0).broken ≡ 255 → ⊥)
     → (seat_in (moment trolley board calls) 0).broken < 2
-always_one_of_two = one_of_two proved-every-moment
+always_one_of_two = one_of_two proved_every_moment
 
 pub ready_keeps_none : (seat_in (moment trolley board ready) 0).broken ≡ 255
-ready_keeps_none = none_kept proved-every-moment
+ready_keeps_none = none_kept proved_every_moment

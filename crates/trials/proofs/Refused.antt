@@ -19,8 +19,8 @@ use Rattle.runs.specs.PaperTable.{FirstOf, NamesFeature, NamesChoice, NamesOptio
 use Rattle.runs.proofs.Computing.{computing}
 use Rattle.promises.specs.Moment.{moment, seat_in}
 use Rattle.promises.specs.Refusals.{Refusals}
-use Rattle.promises.proofs.Refusals.{refusals as proved-refusals}
-use Rattle.promises.proofs.Throughout.{every_moment as proved-every-moment}
+use Rattle.promises.proofs.Refusals.{refusals as proved_refusals}
+use Rattle.promises.proofs.Throughout.{every_moment as proved_every_moment}
 use Rattle.trials.proofs.Runs.{board, opens_single, entered_single, ready_single, is_ready_single, chosen_single}
 use Rattle.trials.proofs.Desks.{room_of, marked, settled}
 use Rattle.trials.proofs.NoEarlier.{below_30}
@@ -42,7 +42,7 @@ abbrev pub by_hand : Room
 by_hand = room_of marked settled 0
 
 passes : (calls : List Call) → (perform single (turns 0) (moment single board calls)).answer.number ≡ 0
-passes calls = ((proved-every-moment single board calls).opened opens_single 0 (lit< tt)).possible.turning 0
+passes calls = ((proved_every_moment single board calls).opened opens_single 0 (lit< tt)).possible.turning 0
 
 passes_by_hand : (perform single (turns 0) by_hand).answer.number ≡ 0
 unfolding room_of marked settled computing
@@ -157,37 +157,37 @@ module _ (demand : Refusals) where
 -- ---- and so
 
 pub none_holds_0 : (perform single (asks 0 Enter) nobody).answer.number ≡ 0
-none_holds_0 = by_none proved-refusals
+none_holds_0 = by_none proved_refusals
 
 pub no_seat_9 : perform single (asks 9 Enter) nobody ≡ record { answer = refused 30; room = nobody }
-no_seat_9 = nothing_done proved-refusals
+no_seat_9 = nothing_done proved_refusals
 
 pub closed_31 : ((perform single (asks 0 Leave) nobody).answer.number ≡ 31)
     × ((perform single (asks 0 (Read RanInto)) nobody).answer.number ≡ 31)
-closed_31 = (by_31 proved-refusals, ran_into_31 proved-refusals)
+closed_31 = (by_31 proved_refusals, ran_into_31 proved_refusals)
 
 pub open_32 : (perform single (asks 0 Enter) is_ready).answer.number ≡ 32
-open_32 = by_32 proved-refusals
+open_32 = by_32 proved_refusals
 
 pub at_work_33 : ((perform single (asks 0 (Choose 0 0)) working).answer.number ≡ 33)
     × (is_at_work (seat_in working 0).state ≡ true)
-at_work_33 = (by_33 proved-refusals, from_33 proved-refusals)
+at_work_33 = (by_33 proved_refusals, from_33 proved_refusals)
 
 pub no_feature_34 : ((perform single (asks 0 (Read (Options 1))) is_ready).answer.number ≡ 34)
     × ((perform single (asks 0 (Relax 5)) is_ready).answer.number ≡ 34)
     × ((perform single (asks 0 (Choose 1 0)) is_ready).answer.number ≡ 34)
     × ((perform single (asks 0 (Read (Alternatives 1))) is_ready).answer.number ≡ 34)
-no_feature_34 = (by_34 proved-refusals, relaxed_34 proved-refusals, chosen_34 proved-refusals, replacing_34 proved-refusals)
+no_feature_34 = (by_34 proved_refusals, relaxed_34 proved_refusals, chosen_34 proved_refusals, replacing_34 proved_refusals)
 
 pub no_option_35 : (perform single (asks 0 (Choose 0 1)) is_ready).answer.number ≡ 35
-no_option_35 = by_35 proved-refusals
+no_option_35 = by_35 proved_refusals
 
 pub has_choice_36 : (perform single (asks 0 (Choose 0 0)) under_choice).answer.number ≡ 36
-has_choice_36 = by_36 proved-refusals
+has_choice_36 = by_36 proved_refusals
 
 pub not_left_37 : (perform single (asks 1 (Read (Example 0 0))) by_hand).answer.number ≡ 37
-not_left_37 = by_37 proved-refusals
+not_left_37 = by_37 proved_refusals
 
 pub no_choice_38 : ((perform single (asks 0 (Relax 0)) is_ready).answer.number ≡ 38)
     × ((perform single (asks 0 (Read (Alternatives 0))) is_ready).answer.number ≡ 38)
-no_choice_38 = (by_38 proved-refusals, replacing_38 proved-refusals)
+no_choice_38 = (by_38 proved_refusals, replacing_38 proved_refusals)

@@ -28,10 +28,10 @@ use Rattle.promises.specs.Jobs.{Quiet}
 use Rattle.promises.specs.Replacing.{Replacing, EveryReplacing}
 use Rattle.promises.specs.Throughout.{EveryMoment}
 use Rattle.promises.specs.Words.{Words}
-use Rattle.promises.proofs.OptionsLeft.{options_left as proved-options-left}
-use Rattle.promises.proofs.Replacing.{every_replacing as proved-every-replacing}
-use Rattle.promises.proofs.Throughout.{every_moment as proved-every-moment}
-use Rattle.promises.proofs.Words.{words as proved-words}
+use Rattle.promises.proofs.OptionsLeft.{options_left as proved_options_left}
+use Rattle.promises.proofs.Replacing.{every_replacing as proved_every_replacing}
+use Rattle.promises.proofs.Throughout.{every_moment as proved_every_moment}
+use Rattle.promises.proofs.Words.{words as proved_words}
 use Rattle.trials.proofs.Runs.{board, opens, ready, chosen, is_ready_again, in_force_lem, feature}
 use Rattle.trials.proofs.Dropped.{has_choice}
 
@@ -154,10 +154,10 @@ module _ (demand : EveryReplacing) where
   here = demand trolley board chosen 0 (lit< tt) is_ready_again 2 (feature 2 (lit< tt)) has_choice
 
   refused_37 : (perform trolley (asks 0 (Read (Example 2 1))) (moment trolley board chosen)).answer.number ≡ 37
-  refused_37 = here.no_example 1 (shown proved-options-left) (λ e. let one : ◌≡◌ {A = ℕ} 0 1 = rw in_force_lem at e in omega (arith, one))
+  refused_37 = here.no_example 1 (shown proved_options_left) (λ e. let one : ◌≡◌ {A = ℕ} 0 1 = rw in_force_lem at e in omega (arith, one))
 
   refused_36 : (perform trolley (asks 0 (Choose 2 1)) (moment trolley board chosen)).answer.number ≡ 36
-  refused_36 = here.not_chosen 1 (shown proved-options-left)
+  refused_36 = here.not_chosen 1 (shown proved_options_left)
 
   -- seat 0 relaxes, and 39 turns bring it to ready
   is_ready_then : (seat_in (moment trolley board (chosen ++ asks 0 (Relax 2) ∷ turns 39 ∷ [])) 0).state ≡ Ready
@@ -171,45 +171,45 @@ module _ (demand : EveryReplacing) where
 -- ---- and so
 
 pub option_1_could : is_alternative trolley (moment trolley board chosen) 0 2 1 ≡ true
-option_1_could = shown proved-options-left
+option_1_could = shown proved_options_left
 
 pub option_2_could_not : is_alternative trolley (moment trolley board chosen) 0 2 2 ≡ true → ⊥
-option_2_could_not = hidden proved-options-left
+option_2_could_not = hidden proved_options_left
 
 pub option_0_among : is_alternative trolley (moment trolley board chosen) 0 2 0 ≡ true
-option_0_among = among proved-options-left
+option_0_among = among proved_options_left
 
 pub option_2_of_1_could : is_alternative trolley (moment trolley board twice) 0 1 2 ≡ true
-option_2_of_1_could = 2-could proved-options-left
+option_2_of_1_could = 2-could proved_options_left
 
 pub option_1_of_1_could_not : is_alternative trolley (moment trolley board twice) 0 1 1 ≡ true → ⊥
-option_1_of_1_could_not = 1-could-not proved-options-left
+option_1_of_1_could_not = 1-could-not proved_options_left
 
 pub option_1_of_2_no_longer : is_alternative trolley (moment trolley board twice) 0 2 1 ≡ true → ⊥
-option_1_of_2_no_longer = no_longer proved-options-left
+option_1_of_2_no_longer = no_longer proved_options_left
 
 pub in_alternative_domain : (build : List ℕ) × BuildWith trolley (set_aside (seat_in (moment trolley board twice) 0).choices 1) 1 2 build
-in_alternative_domain = in_domain proved-options-left
+in_alternative_domain = in_domain proved_options_left
 
 pub left_while_others_work : (perform trolley (asks 0 (Read (Options 1))) (moment trolley board (twice ++ asks 0 (Relax 1) ∷ meanwhile))).answer
     ≡ (perform trolley (asks 0 (Read (Alternatives 1))) (moment trolley board twice)).answer
-left_while_others_work = as_shown proved-every-replacing
+left_while_others_work = as_shown proved_every_replacing
 
 pub in_force_at_work : has_bit (get_or (seat_in (moment trolley board (ready ++ asks 0 (Choose 2 0) ∷ turns 1 ∷ [])) 0).alternatives 2 0) 0 ≡ true
-in_force_at_work = counts_at_work proved-every-moment
+in_force_at_work = counts_at_work proved_every_moment
 
 pub none_without_choice : get_or (seat_in (moment trolley board chosen) 0).alternatives 1 0 ≡ 0
-none_without_choice = unchosen proved-every-moment
+none_without_choice = unchosen proved_every_moment
 
 pub no_example_37 : (perform trolley (asks 0 (Read (Example 2 1))) (moment trolley board chosen)).answer.number ≡ 37
-no_example_37 = refused_37 proved-every-replacing
+no_example_37 = refused_37 proved_every_replacing
 
 pub not_chosen_36 : (perform trolley (asks 0 (Choose 2 1)) (moment trolley board chosen)).answer.number ≡ 36
-not_chosen_36 = refused_36 proved-every-replacing
+not_chosen_36 = refused_36 proved_every_replacing
 
 pub left_after_relaxing : (perform trolley (asks 0 (Read (Options 2))) (moment trolley board (chosen ++ asks 0 (Relax 2) ∷ turns 39 ∷ []))).answer
     ≡ (perform trolley (asks 0 (Read (Alternatives 2))) (moment trolley board chosen)).answer
-left_after_relaxing = both_left proved-every-replacing
+left_after_relaxing = both_left proved_every_replacing
 
 pub some_build_has_1 : (build : List ℕ) × (get_or build 2 255 ≡ 1)
-some_build_has_1 = said proved-words (0 ∷ 1 ∷ 1 ∷ [], has_011)
+some_build_has_1 = said proved_words (0 ∷ 1 ∷ 1 ∷ [], has_011)

@@ -25,7 +25,7 @@ use Rattle.runs.specs.Perform.{perform}
 use Rattle.runs.proofs.Computing.{computing}
 use Rattle.promises.specs.Moment.{seat_in}
 use Rattle.promises.specs.Turns.{FirstAtWork, EveryTurns}
-use Rattle.promises.proofs.Turns.{every_turns as proved-every-turns}
+use Rattle.promises.proofs.Turns.{every_turns as proved_every_turns}
 use Rattle.trials.proofs.Desks.{room_of, whole_room}
 use Rattle.trials.proofs.Places.{at_place, searching, before, by_rules, chosen_alone, to_feature_1, to_ready}
 
@@ -35,6 +35,7 @@ Kept j placed rule = Memᴰ j rule.features → Every (λ (f : ℕ). f ≤ j) ru
 
 each_kept : (j : ℕ) (placed : List ℕ) {n : ℕ} {rule : Rule} {rules : List Rule} → Every (Kept j placed) rules
     → Numbered rules n rule → Kept j placed rule
+each_kept j placed none there = elim there [ ]
 each_kept j placed (also kept others) Numbered.front = kept
 each_kept j placed (also kept others) (Numbered.later there) = each_kept j placed others there
 
@@ -221,31 +222,31 @@ pub alternative_found : ((step trolley (before other_chosen)).seat.state ≡ Rea
     × ((step trolley (before other_chosen)).share ≡ (before other_chosen).share)
     × ((step trolley (before other_chosen)).seat.trial ≡ nothing16)
     × ((step trolley (before other_chosen)).seat.broken ≡ 255)
-alternative_found = found_otherwise proved-every-turns
+alternative_found = found_otherwise proved_every_turns
 
 pub one_alternative_alone : (has_bit (get_or (step trolley (before other_chosen)).seat.alternatives 2 0) 0 ≡ true)
     × (has_bit (get_or (step trolley (before other_chosen)).seat.alternatives 1 0) 1 ≡ true → ⊥)
-one_alternative_alone = no_other_alternative proved-every-turns
+one_alternative_alone = no_other_alternative proved_every_turns
 
 pub turn_to_ready : (seat_in (perform trolley (turns 1) (room_of other_chosen closed_seat 0)).room 0).state ≡ Ready
-turn_to_ready = by_a_turn proved-every-turns
+turn_to_ready = by_a_turn proved_every_turns
 
 pub build_211_found : ((step trolley (before complete)).seat.state ≡ AtWork (at_place 1 0 0 0))
     × (has_bit (get_or (step trolley (before complete)).seat.masks 0 0) 2 ≡ true)
     × ((step trolley (before complete)).share ≡ put (before complete).share 32 build_211)
     × ((step trolley (before complete)).seat.alternatives ≡ replicate 16 0)
     × ((step trolley (before complete)).seat.broken ≡ 0)
-build_211_found = rule_3 proved-every-turns
+build_211_found = rule_3 proved_every_turns
 
 pub one_bit_alone : has_bit (get_or (step trolley (before complete)).seat.masks 0 0) 1 ≡ true → ⊥
-one_bit_alone = no_other_bit proved-every-turns
+one_bit_alone = no_other_bit proved_every_turns
 
 pub ready_at_last : ((step single (before only)).seat.state ≡ Ready)
     × (has_bit (get_or (step single (before only)).seat.masks 0 0) 0 ≡ true)
-ready_at_last = last_of_all proved-every-turns
+ready_at_last = last_of_all proved_every_turns
 
 pub one_deeper : ((step trolley (before deeper)).seat.state ≡ AtWork (at_place 0 1 2 0))
     × ((step trolley (before deeper)).seat.trial ≡ 1 ∷ 0 ∷ replicate 14 255)
     × ((step trolley (before deeper)).seat.choices ≡ last_chosen)
     × ((step trolley (before deeper)).seat.broken ≡ 1)
-one_deeper = rule_4 proved-every-turns
+one_deeper = rule_4 proved_every_turns

@@ -26,8 +26,8 @@ use Rattle.runs.proofs.Computing.{computing}
 use Rattle.promises.specs.Moment.{moment, Opened, seat_in}
 use Rattle.promises.specs.OptionsLeft.{OptionsLeft, is_shown}
 use Rattle.promises.specs.Throughout.{EveryMoment}
-use Rattle.promises.proofs.OptionsLeft.{options_left as proved-options-left}
-use Rattle.promises.proofs.Throughout.{every_moment as proved-every-moment}
+use Rattle.promises.proofs.OptionsLeft.{options_left as proved_options_left}
+use Rattle.promises.proofs.Throughout.{every_moment as proved_every_moment}
 use Rattle.trials.proofs.Runs.{board, opens, ready, is_ready, chosen, is_ready_again, in_force_lem, feature}
 
 three_options : size_of trolley 0 ≡ 3
@@ -161,34 +161,34 @@ nothing demand calls = ((demand all_unequal board calls).opened opens_unequal 0 
 -- ---- and so
 
 pub option_1_left : is_shown trolley (moment trolley board ready) 0 0 1 ≡ true
-option_1_left = left proved-options-left
+option_1_left = left proved_options_left
 
 pub first_is_100 : (perform trolley (asks 0 (Read (Example 0 1))) (moment trolley board ready)).answer.bytes
     ≡ padded (1 ∷ 0 ∷ 0 ∷ [])
-first_is_100 = first_of_three proved-options-left
+first_is_100 = first_of_three proved_options_left
 
 pub option_0_hidden : is_shown trolley (moment trolley board chosen) 0 0 0 ≡ true → ⊥
-option_0_hidden = hidden proved-options-left
+option_0_hidden = hidden proved_options_left
 
 pub option_2_left : is_shown trolley (moment trolley board chosen) 0 1 2 ≡ true
-option_2_left = solution proved-options-left
+option_2_left = solution proved_options_left
 
 pub first_is_120 : (perform trolley (asks 0 (Read (Example 1 2))) (moment trolley board chosen)).answer.bytes
     ≡ padded (1 ∷ 2 ∷ 0 ∷ [])
-first_is_120 = beside proved-options-left
+first_is_120 = beside proved_options_left
 
 pub nothing_beside : ((perform trolley (asks 0 (Read (Example 0 0))) (moment trolley board chosen)).answer.number ≡ 37)
     × (example_in (share_at (moment trolley board chosen).board 0) 0 0 ≡ replicate 16 255)
-nothing_beside = beside_none proved-options-left
+nothing_beside = beside_none proved_options_left
 
 pub chosen_alone : (a : ℕ) → (is_shown trolley (moment trolley board chosen) 0 2 a ≡ true) ↔ (a ≡ 0)
-chosen_alone = alone proved-every-moment
+chosen_alone = alone proved_every_moment
 
 pub each_shows_one : (i : ℕ) → i < 3 → (a : ℕ) × (is_shown trolley (moment trolley board chosen) 0 i a ≡ true)
-each_shows_one = some proved-every-moment
+each_shows_one = some proved_every_moment
 
 pub nothing_shown : (calls : List Call)
     → ((seat_in (moment all_unequal board calls) 0).masks ≡ no_option_left)
     × (share_at (moment all_unequal board calls).board 0 ≡ empty_share)
     × ((seat_in (moment all_unequal board calls) 0).alternatives ≡ no_option_left)
-nothing_shown = nothing proved-every-moment
+nothing_shown = nothing proved_every_moment

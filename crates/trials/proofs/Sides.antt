@@ -13,7 +13,7 @@ use Rattle.runs.specs.Call.{Call, asks, turns, answers, plain}
 use Rattle.runs.proofs.Computing.{computing}
 use Rattle.promises.specs.Moment.{moment, Opened}
 use Rattle.promises.specs.TwoRuns.{TwoRuns, calls_of, answers_of}
-use Rattle.promises.proofs.TwoRuns.{two_runs as proved-two-runs}
+use Rattle.promises.proofs.TwoRuns.{two_runs as proved_two_runs}
 use Rattle.trials.proofs.Runs.{board, opens_single}
 
 unfoldable pub other_board : List ℕ
@@ -47,7 +47,7 @@ same_clinic demand = (demand single board other_board opens_single opens_other q
 -- ---- and so
 
 pub same_answers : answers_of single other_board crowded 3 ≡ plain ∷ answers 1 1 [] 0 false ∷ plain ∷ []
-same_answers = crowded_answers proved-two-runs
+same_answers = crowded_answers proved_two_runs
 
 pub same_record_and_share : clinic_at (moment single board quiet) 3 ≡ clinic_at (moment single other_board crowded) 3
-same_record_and_share = same_clinic proved-two-runs
+same_record_and_share = same_clinic proved_two_runs

@@ -24,9 +24,9 @@ use Rattle.promises.specs.Moment.{moment, Opened, seat_in}
 use Rattle.promises.specs.Askings.{Blank, Posted, Askings, EveryAsking}
 use Rattle.promises.specs.Jobs.{PostsJob, Quiet, Job, EveryJob, Stands}
 use Rattle.promises.specs.Throughout.{EveryMoment}
-use Rattle.promises.proofs.Askings.{every_asking as proved-every-asking}
-use Rattle.promises.proofs.Jobs.{every_job as proved-every-job}
-use Rattle.promises.proofs.Throughout.{every_moment as proved-every-moment}
+use Rattle.promises.proofs.Askings.{every_asking as proved_every_asking}
+use Rattle.promises.proofs.Jobs.{every_job as proved_every_job}
+use Rattle.promises.proofs.Throughout.{every_moment as proved_every_moment}
 use Rattle.trials.proofs.Runs.{board, opens, begun}
 
 -- a seat at its job is never closed
@@ -111,10 +111,10 @@ third jobs moments asked =
 -- ---- and so
 
 pub fourth_blank : Blank (clinic_at (moment trolley board begun) 4)
-fourth_blank = fourth proved-every-job proved-every-moment
+fourth_blank = fourth proved_every_job proved_every_moment
 
 pub fourth_share : (clinic_at (moment trolley board begun) 4).share ≡ replicate 4096 255
 fourth_share = fourth_blank.share_filled
 
 pub third_searching : Searching trolley (clinic_at (moment trolley board begun) 3)
-third_searching = third proved-every-job proved-every-moment proved-every-asking
+third_searching = third proved_every_job proved_every_moment proved_every_asking

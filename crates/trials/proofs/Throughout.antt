@@ -23,7 +23,7 @@ use Rattle.runs.specs.Perform.{perform}
 use Rattle.runs.proofs.Computing.{computing}
 use Rattle.promises.specs.Moment.{moment, Opened, seat_in, IsDone}
 use Rattle.promises.specs.Throughout.{EveryMoment, AtAMoment}
-use Rattle.promises.proofs.Throughout.{every_moment as proved-every-moment}
+use Rattle.promises.proofs.Throughout.{every_moment as proved_every_moment}
 use Rattle.trials.proofs.Runs.{board, opens, opens_single, chosen, ready_single, is_ready_single, one_feature, entered_single, chosen_single}
 
 ready_under_choice : (seat_in (moment single board chosen_single) 0).state ≡ Ready
@@ -124,46 +124,46 @@ never_listed demand calls = (demand no_option board calls).never_opens catalogue
 -- ---- and so
 
 pub seat_0_enters : IsDone single (moment single board []) (asks 0 Enter)
-seat_0_enters = enters proved-every-moment
+seat_0_enters = enters proved_every_moment
 
 pub seat_0_leaves : IsDone single (moment single board ready_single) (asks 0 Leave)
-seat_0_leaves = leaves proved-every-moment
+seat_0_leaves = leaves proved_every_moment
 
 pub seat_0_leaves_at_work : IsDone single (moment single board entered_single) (asks 0 Leave)
-seat_0_leaves_at_work = leaves_at_work proved-every-moment
+seat_0_leaves_at_work = leaves_at_work proved_every_moment
 
 pub seat_0_reads_a_rule_at_work : IsDone single (moment single board entered_single) (asks 0 (Read RanInto))
-seat_0_reads_a_rule_at_work = reads_rule proved-every-moment
+seat_0_reads_a_rule_at_work = reads_rule proved_every_moment
 
 pub seat_0_reads_options : IsDone single (moment single board ready_single) (asks 0 (Read (Options 0)))
-seat_0_reads_options = reads_options proved-every-moment
+seat_0_reads_options = reads_options proved_every_moment
 
 pub seat_0_reads_an_example : IsDone single (moment single board ready_single) (asks 0 (Read (Example 0 0)))
-seat_0_reads_an_example = reads_example proved-every-moment
+seat_0_reads_an_example = reads_example proved_every_moment
 
 pub seat_0_chooses : IsDone single (moment single board ready_single) (asks 0 (Choose 0 0))
-seat_0_chooses = chooses proved-every-moment
+seat_0_chooses = chooses proved_every_moment
 
 pub seat_0_relaxes : IsDone single (moment single board chosen_single) (asks 0 (Relax 0))
-seat_0_relaxes = relaxes proved-every-moment
+seat_0_relaxes = relaxes proved_every_moment
 
 pub seat_0_reads_alternatives : IsDone single (moment single board chosen_single) (asks 0 (Read (Alternatives 0)))
-seat_0_reads_alternatives = reads_alternatives proved-every-moment
+seat_0_reads_alternatives = reads_alternatives proved_every_moment
 
 pub turns_are_made : (w : ℕ) → IsDone single (moment single board chosen_single) (turns w)
-turns_are_made = turns_made proved-every-moment
+turns_are_made = turns_made proved_every_moment
 
 pub never_given_20 : (call : Call) → (perform trolley call (moment trolley board chosen)).answer.number ≡ 20 → ⊥
-never_given_20 = no_20 proved-every-moment
+never_given_20 = no_20 proved_every_moment
 
 pub whole_throughout : (length (moment trolley board chosen).desk.seats ≡ 8)
     × (length (seat_in (moment trolley board chosen) 7).masks ≡ 16)
     × (length (seat_in (moment trolley board chosen) 7).alternatives ≡ 16)
     × (length (moment trolley board chosen).board ≡ 32768)
-whole_throughout = lengths proved-every-moment
+whole_throughout = lengths proved_every_moment
 
 pub stays_closed : (calls : List Call) (c : ℕ) → (seat_in (moment trolley [] calls) c).state ≡ Closed
-stays_closed = never proved-every-moment
+stays_closed = never proved_every_moment
 
 pub stays_closed_listed : (calls : List Call) (c : ℕ) → (seat_in (moment no_option board calls) c).state ≡ Closed
-stays_closed_listed = never_listed proved-every-moment
+stays_closed_listed = never_listed proved_every_moment

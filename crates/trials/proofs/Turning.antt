@@ -17,8 +17,8 @@ use Rattle.runs.proofs.Computing.{computing}
 use Rattle.promises.specs.Moment.{moment, seat_in}
 use Rattle.promises.specs.Whole.{Whole}
 use Rattle.promises.specs.Turns.{EveryTurns, FirstAtWork}
-use Rattle.promises.proofs.Throughout.{every_moment as proved-every-moment}
-use Rattle.promises.proofs.Turns.{every_turns as proved-every-turns}
+use Rattle.promises.proofs.Throughout.{every_moment as proved_every_moment}
+use Rattle.promises.proofs.Turns.{every_turns as proved_every_turns}
 use Rattle.trials.proofs.Runs.{board, opens, opens_single, ready_single}
 
 -- Seats 5 and 3 entered; seat 3 was served first, so that next is 4 and seat 5 comes first.
@@ -29,10 +29,10 @@ abbrev served_room : Room
 served_room = moment trolley board served
 
 whole : (calls : List Call) → Whole (moment trolley board calls)
-whole calls = ((proved-every-moment trolley board calls).opened opens 0 (lit< tt)).whole
+whole calls = ((proved_every_moment trolley board calls).opened opens 0 (lit< tt)).whole
 
 passes : (calls : List Call) → (perform trolley (turns 0) (moment trolley board calls)).answer.number ≡ 0
-passes calls = ((proved-every-moment trolley board calls).opened opens 0 (lit< tt)).possible.turning 0
+passes calls = ((proved_every_moment trolley board calls).opened opens 0 (lit< tt)).possible.turning 0
 
 nobody_before : (n : ℕ) → n < 1 → is_at_work (seat_in served_room ((served_room.desk.next + n) % 8)).state ≡ false
 unfolding board served computing moment
@@ -90,10 +90,10 @@ abbrev alone_room : Room
 alone_room = moment single board alone
 
 whole_single : (calls : List Call) → Whole (moment single board calls)
-whole_single calls = ((proved-every-moment single board calls).opened opens_single 0 (lit< tt)).whole
+whole_single calls = ((proved_every_moment single board calls).opened opens_single 0 (lit< tt)).whole
 
 passes_single : (calls : List Call) → (perform single (turns 0) (moment single board calls)).answer.number ≡ 0
-passes_single calls = ((proved-every-moment single board calls).opened opens_single 0 (lit< tt)).possible.turning 0
+passes_single calls = ((proved_every_moment single board calls).opened opens_single 0 (lit< tt)).possible.turning 0
 
 nobody : (c : ℕ) → c < 8 → is_at_work (seat_in (moment single board ready_single) c).state ≡ false
 unfolding board ready_single computing moment
@@ -135,43 +135,43 @@ module _ (demand : EveryTurns) where
 -- ---- and so
 
 pub seat_5_steps : clinic_at (perform trolley (turns 1) served_room).room 5 ≡ step trolley (clinic_at served_room 5)
-seat_5_steps = one_step proved-every-turns
+seat_5_steps = one_step proved_every_turns
 
 pub seat_3_waits : clinic_at (perform trolley (turns 1) served_room).room 3 ≡ clinic_at served_room 3
-seat_3_waits = waits proved-every-turns
+seat_3_waits = waits proved_every_turns
 
 pub seat_6_next : (perform trolley (turns 1) served_room).room.desk.next ≡ 6
-seat_6_next = next_is_6 proved-every-turns
+seat_6_next = next_is_6 proved_every_turns
 
 pub one_turn_made : (perform trolley (turns 1) served_room).answer.made ≡ 1
-one_turn_made = one_counted proved-every-turns
+one_turn_made = one_counted proved_every_turns
 
 pub five_turns : ((perform trolley (turns 5) served_room).room
     ≡ (perform trolley (turns 3) (perform trolley (turns 2) served_room).room).room)
     × ((perform trolley (turns 5) served_room).answer.made ≡ (perform trolley (turns 2) served_room).answer.made
     + (perform trolley (turns 3) (perform trolley (turns 2) served_room).room).answer.made)
-five_turns = two_and_three proved-every-turns
+five_turns = two_and_three proved_every_turns
 
 pub no_turns_no_change : ((perform trolley (turns 0) served_room).room ≡ served_room)
     × ((perform trolley (turns 0) served_room).answer.made ≡ 0)
-no_turns_no_change = no_turns proved-every-turns
+no_turns_no_change = no_turns proved_every_turns
 
 pub two_made : (perform trolley (turns 2) served_room).answer.made ≡ 2
-two_made = both_made proved-every-turns
+two_made = both_made proved_every_turns
 
 pub still_at_work : (c : ℕ) × (c < 8) × (is_at_work (seat_in (perform trolley (turns 2) served_room).room c).state ≡ true)
-still_at_work = still proved-every-turns
+still_at_work = still proved_every_turns
 
 pub of_100_turns_one : (perform single (turns 100) alone_room).answer.made ≡ 1
-of_100_turns_one = one_made proved-every-turns
+of_100_turns_one = one_made proved_every_turns
 
 pub nobody_at_work : (perform single (turns 100) alone_room).answer.working ≡ false
-nobody_at_work = then_idle proved-every-turns
+nobody_at_work = then_idle proved_every_turns
 
 pub somebody_at_work : (perform single (turns 0) alone_room).answer.working ≡ true
-somebody_at_work = somebody proved-every-turns
+somebody_at_work = somebody proved_every_turns
 
 pub idle_turns_no_change : ((perform single (turns 1) (moment single board ready_single)).room
     ≡ moment single board ready_single)
     × ((perform single (turns 1) (moment single board ready_single)).answer.made ≡ 0)
-idle_turns_no_change = idle_turn proved-every-turns
+idle_turns_no_change = idle_turn proved_every_turns

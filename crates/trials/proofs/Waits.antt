@@ -21,8 +21,8 @@ use Rattle.runs.proofs.Computing.{computing}
 use Rattle.promises.specs.Moment.{moment, seat_in}
 use Rattle.promises.specs.Refusals.{Refusals}
 use Rattle.promises.specs.Jobs.{PostsJob, Quiet, Job, EveryJob}
-use Rattle.promises.proofs.Jobs.{every_job as proved-every-job}
-use Rattle.promises.proofs.Refusals.{refusals as proved-refusals}
+use Rattle.promises.proofs.Jobs.{every_job as proved_every_job}
+use Rattle.promises.proofs.Refusals.{refusals as proved_refusals}
 use Rattle.trials.proofs.Runs.{board, opens, ready, seven}
 
 pub sum_39 : job_steps trolley nothing16 ≡ 39
@@ -138,20 +138,20 @@ no_more jobs w =
 -- ---- and so
 
 pub last_of_eight : (seat_in (after_calls trolley busy last_entered) 7).state ≡ Ready
-last_of_eight = eighth proved-every-job
+last_of_eight = eighth proved_every_job
 
 pub last_takes_39 : ((steps trolley 39 (clinic_at last_entered 7)).seat.state ≡ Ready)
     × (is_at_work (steps trolley 38 (clinic_at last_entered 7)).seat.state ≡ true)
-last_takes_39 = thirty_nine proved-every-job
+last_takes_39 = thirty_nine proved_every_job
 
 pub ready_after_choice : (seat_in (after_calls trolley (turns 344 ∷ []) after_choice) 0).state ≡ Ready
-ready_after_choice = waits_344 proved-every-job
+ready_after_choice = waits_344 proved_every_job
 
 pub after_eight_steps : clinic_at (after_calls trolley meanwhile after_choice) 0 ≡ steps trolley 8 (clinic_at after_choice 0)
-after_eight_steps = eight_steps proved-every-job proved-refusals
+after_eight_steps = eight_steps proved_every_job proved_refusals
 
 pub not_ready_yet : (seat_in (after_calls trolley meanwhile after_choice) 0).state ≡ Ready → ⊥
-not_ready_yet = not_yet proved-every-job proved-refusals
+not_ready_yet = not_yet proved_every_job proved_refusals
 
 pub at_most_43 : (w : ℕ) → steps_in trolley 0 (turns w ∷ []) after_choice ≤ 43
-at_most_43 = no_more proved-every-job
+at_most_43 = no_more proved_every_job

@@ -21,7 +21,7 @@ use Rattle.runs.specs.Run.{turns_asked}
 use Rattle.runs.proofs.Computing.{computing}
 use Rattle.promises.specs.Moment.{moment}
 use Rattle.promises.specs.Words.{Words}
-use Rattle.promises.proofs.Words.{words as proved-words}
+use Rattle.promises.proofs.Words.{words as proved_words}
 use Rattle.trials.proofs.Runs.{board}
 
 -- two rows on features 1 and 0: the options are taken in the rule's order
@@ -78,22 +78,22 @@ module _ (demand : Words) where
 -- ---- and so
 
 pub one_of_the_rows : Memᴰ {A = List ℕ} (2 ∷ 1 ∷ []) ((0 ∷ 1 ∷ []) ∷ (2 ∷ 1 ∷ []) ∷ [])
-one_of_the_rows = row_found proved-words
+one_of_the_rows = row_found proved_words
 
 pub rule_1 : Numbered (two_rows ∷ two_rows ∷ []) 1 two_rows
-rule_1 = second_of_two proved-words
+rule_1 = second_of_two proved_words
 
 pub share_begins : (clinic_at (moment trolley board []) 3).share ≡ take 4096 (drop 12288 (moment trolley board []).board)
-share_begins = share_of_3 proved-words
+share_begins = share_of_3 proved_words
 
 pub two_rows_written : rule_written two_rows ≡ 2 ∷ 2 ∷ 1 ∷ 0 ∷ 0 ∷ 1 ∷ 2 ∷ 1 ∷ []
-two_rows_written = list_written proved-words
+two_rows_written = list_written proved_words
 
 pub third_seat_closed : seat_at (moment trolley board []).desk 3 ≡ closed_seat
-third_seat_closed = third_seat proved-words
+third_seat_closed = third_seat proved_words
 
 pub bit_2_of_5 : 5 / 2 ^ 2 % 2 ≡ 1
-bit_2_of_5 = bit_2 proved-words
+bit_2_of_5 = bit_2 proved_words
 
 pub nine_written : put (1 ∷ 2 ∷ 3 ∷ []) 1 (9 ∷ []) ≡ 1 ∷ 9 ∷ 3 ∷ []
-nine_written = written proved-words
+nine_written = written proved_words
