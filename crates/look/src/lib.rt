@@ -1,5 +1,7 @@
 // What others look up in a seat's record. Of a feature or an option above 15 there is nothing: no choice, none left, no
 // alternative.
+#![tactic(auto)]
+
 ghost use Rattle.std.specs.Prelude.{◌≡◌};
 ghost use Rattle.search.specs.Look.{is_closed, is_at_work, has_choice, mask_of, is_left, alternatives_of};
 

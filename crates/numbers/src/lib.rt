@@ -1,4 +1,6 @@
 // Single numbers of the lent slices, widened, with their ranges.
+#![tactic(auto)]
+
 ghost use Rattle.std.specs.Prelude.{◌≡◌, ◌<◌, get_or};
 
 pub fn wide(x: u16) -> usize

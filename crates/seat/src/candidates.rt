@@ -7,7 +7,7 @@ ghost use Rattle.seat.specs.Inner.Next.{next_of};
 use search::{Place, State};
 
 // The next greater candidate, if there is one.
-#[derive(Drop)]
+#[derive(Clone, Copy)]
 pub enum Next {
     Candidate(u8),
     Nothing,

@@ -1,4 +1,6 @@
 // What an asking makes of one clinic; the candidates of a search; the clinic's share of the board.
+#![tactic(auto)]
+
 mod candidates;
 mod job;
 mod share;

@@ -1,0 +1,13 @@
+-- `faults::row_fits`: whether the whole row fits is at each turn whether what is left of it fits what is left of the
+-- features, since every option passed is below its feature's size.
+use Prim.Native.Nat.{◌-◌, ◌≤◌}
+use mathlib.Core.Path.{◌≡◌}
+use lib.ListN.{length, drop}
+use Rattle.builds.specs.Fault.{row_fits}
+use Rattle.catalogue.proofs.faults.row_fits.Given as goal
+
+abbrev pub invariant-loop-i : goal.invariant-loop-i
+invariant-loop-i l = (l.i ≤ length l.features) × (row_fits l.sizes l.features l.row ≡ row_fits l.sizes (drop l.i l.features) (drop l.i l.row))
+
+abbrev pub decreases-loop-i : goal.decreases-loop-i
+decreases-loop-i l = length l.features - l.i

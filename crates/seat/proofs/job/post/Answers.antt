@@ -1,0 +1,13 @@
+-- The share comes back filled with 255; the state is that of the first pair, which `started` makes.
+use Rattle.search.specs.Step.{posted}
+use Rattle.seat.proofs.job.post.Goals as goal
+
+pub returns : goal.returns
+unfolding posted
+returns c =
+    rw (
+      c.in_force.ensures,
+      c.started-state.ensures,
+      c.empty.ensures,
+      c.requires.share_len.0,
+    )
