@@ -1,7 +1,7 @@
 //! Finds the proved archive, or makes it, looks that it has this crate's layout, and has it linked.
 //!
 //! `NETHAZEL_ARCHIVE` may name the archive, for a host that has no `rt`. Else it is the repository's own,
-//! `target/staticlib/libhost.a`, which `tools/archive` makes again where it is older than the code that it was made from.
+//! `crates/host/out/libhost.a`, which `tools/archive` makes again where it is older than the code that it was made from.
 //!
 //! A wrong archive ends the build at once. Where there is none that could be linked, checking and documenting still work,
 //! for they link nothing: see `link_nothing`.
@@ -83,8 +83,8 @@ fn repository_archive() -> Result<PathBuf, Missing> {
         _ => return Err(outside_the_repository()),
     };
     let crates = repository.join("crates");
-    let archive = repository.join("target/staticlib/libhost.a");
-    println!("cargo:rerun-if-changed={}", crates.display());
+    let archive = repository.join("crates/host/out/libhost.a");
+    look_at_sources(&crates);
     println!("cargo:rerun-if-changed={}", archive.display());
     make(&repository)?;
     if !archive.is_file() {
@@ -93,6 +93,15 @@ fn repository_archive() -> Result<PathBuf, Missing> {
     }
     look_at_layout(&archive);
     Ok(archive)
+}
+
+/// What the archive is made from: each crate's src/, and not its out/, where making it writes.
+fn look_at_sources(crates: &Path) {
+    let entries = fs::read_dir(crates).into_iter().flatten().flatten();
+    let sources = entries.map(|entry| entry.path().join("src"));
+    for source in sources.filter(|source| source.is_dir()) {
+        println!("cargo:rerun-if-changed={}", source.display());
+    }
 }
 
 /// A file that is nowhere has cargo look again each time: what is missing may be there then, and not every cargo sees that
@@ -107,7 +116,7 @@ fn outside_the_repository() -> Missing {
         name: "nethazel outside its repository needs NETHAZEL_ARCHIVE to name the archive".to_string(),
         words: Some("this copy of nethazel stands outside its repository and has no archive; name one by \
                 NETHAZEL_ARCHIVE=/WHOLE/PATH/libnethazel.a: the one that is installed with Nethazel's header, or \
-                target/staticlib/libhost.a, which `rt staticlib host` makes in the repository"
+                crates/host/out/libhost.a, which `rt lib` makes in the repository's crates/host"
             .to_string()),
     }
 }
@@ -134,7 +143,7 @@ fn without_rt() -> Missing {
     Missing {
         name: "nethazel has no archive that is up to date, and no rt to make it".to_string(),
         words: Some(
-            "the archive target/staticlib/libhost.a is missing or older than the code, and there is no `rt`, which \
+            "the archive crates/host/out/libhost.a is missing or older than the code, and there is no `rt`, which \
              makes it; install the Rattle kit, or name an archive in NETHAZEL_ARCHIVE"
                 .to_string(),
         ),

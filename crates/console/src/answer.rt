@@ -1,12 +1,13 @@
 // One line and its answer.
 use lines::commands::{EXIT, Form, MORE, NONE, QUIT, SET_BYTE, command_of, takes, write_form};
 use lines::{
-    Numbers, Stretch, at, between, end_of, first, least, read_numbers, report_number, same, text,
+    Console, Numbers, Stretch, at, between, end_of, first, least, read_numbers, report_number,
+    same, text,
 };
 use room::{Room, obey};
 
 // What has become of a script's lines.
-#[derive(Drop)]
+#[derive(Clone, Copy)]
 pub struct Sitting {
     pub room: Room,
     pub lines: u64, // read so far, the one being answered included
@@ -16,7 +17,7 @@ pub struct Sitting {
 }
 
 // What a line is.
-#[derive(Drop)]
+#[derive(Clone, Copy)]
 enum Line {
     Nothing,
     Unknown,
@@ -25,6 +26,7 @@ enum Line {
 }
 
 pub fn answer(
+    console: &Console,
     sitting: Sitting,
     board: &mut [u8],
     sizes: &mut [u8],
@@ -32,11 +34,12 @@ pub fn answer(
     numbers: &mut [u32],
     line: &[u8],
 ) -> Sitting {
-    let what = read(sitting.room, line, numbers);
-    respond(sitting, board, sizes, rules, numbers, what)
+    let what = read(console, sitting.room, line, numbers);
+    respond(console, sitting, board, sizes, rules, numbers, what)
 }
 
 fn respond(
+    console: &Console,
     sitting: Sitting,
     board: &mut [u8],
     sizes: &mut [u8],
@@ -47,27 +50,27 @@ fn respond(
     match what {
         Line::Nothing => sitting,
         Line::Unknown => {
-            text(b"not understood; help lists the commands\n");
-            not_understood(sitting)
+            text(console, b"not understood; help lists the commands\n");
+            not_understood(console, sitting)
         }
         Line::Misused(form) => {
-            text(b"not understood; write: ");
-            write_form(form);
-            text(b"\n");
-            not_understood(sitting)
+            text(console, b"not understood; write: ");
+            write_form(console, form);
+            text(console, b"\n");
+            not_understood(console, sitting)
         }
         Line::Command(command, count) => {
             let given = first(numbers, count);
-            let room = obey(sitting.room, board, sizes, rules, command, given);
+            let room = obey(console, sitting.room, board, sizes, rules, command, given);
             answered(sitting, room, command)
         }
     }
 }
 
-pub fn not_understood(sitting: Sitting) -> Sitting {
-    report_number(b"missed ", sitting.lines);
+pub fn not_understood(console: &Console, sitting: Sitting) -> Sitting {
+    report_number(console, b"missed ", sitting.lines);
     let mut changed = sitting;
-    changed.not_understood = std::num::wrapping_add_u64(sitting.not_understood, 1);
+    changed.not_understood = sitting.not_understood.wrapping_add(1);
     changed
 }
 
@@ -75,7 +78,7 @@ fn answered(sitting: Sitting, room: Room, command: usize) -> Sitting {
     Sitting {
         room,
         lines: sitting.lines,
-        answered: std::num::wrapping_add_u64(sitting.answered, 1),
+        answered: sitting.answered.wrapping_add(1),
         not_understood: sitting.not_understood,
         ended: ends(command),
     }
@@ -89,21 +92,21 @@ fn ends(command: usize) -> bool {
 }
 
 // A byte-order mark is passed over.
-fn read(room: Room, line: &[u8], numbers: &mut [u32]) -> Line {
+fn read(console: &Console, room: Room, line: &[u8], numbers: &mut [u32]) -> Line {
     if same(between(line, 0, 3), b"\xef\xbb\xbf") {
-        return read_words(room, between(line, 3, line.len()), numbers);
+        return read_words(console, room, between(line, 3, line.len()), numbers);
     }
-    read_words(room, line, numbers)
+    read_words(console, room, line, numbers)
 }
 
-fn read_words(room: Room, line: &[u8], numbers: &mut [u32]) -> Line {
+fn read_words(console: &Console, room: Room, line: &[u8], numbers: &mut [u32]) -> Line {
     let from = end_of(line, 0, Stretch::Blanks);
     if from == line.len() {
         return Line::Nothing;
     }
     if line[from] == b'#' {
-        text(line);
-        text(b"\n");
+        text(console, line);
+        text(console, b"\n");
         return Line::Nothing;
     }
     let to = end_of(line, from, Stretch::Word);

@@ -1,52 +1,80 @@
 // The console: lines of text in, answers out, over one desk. docs/CONSOLE.md has its lines. With no argument it reads
 // standard input; else each argument names a script, and - standard input.
+#![tactic(auto)]
+
 mod answer;
 mod script;
 
-use libc::STDIN_FILENO;
-use lines::{between, report, same, text};
+use lines::{Console, between, is_person, report, same, text};
 use script::script;
+use std::env::{Env, FillError};
+use std::fs::File;
 
-fn main() {
-    let count = os::arg_count();
-    if count < 2 {
-        script(STDIN_FILENO);
+fn main(rt: HostRuntime) {
+    let console = Console::new(&rt);
+    if !argument(&rt, &console, 1) {
+        input(&rt, &console);
         return;
     }
-    scripts(count);
+    scripts(&rt, &console);
 }
 
 // Argument 0 is the program's own name.
-fn scripts(count: usize) {
-    let mut i = 1usize;
-    while i < count {
-        argument(i);
-        i += 1;
+fn scripts(rt: &HostRuntime, console: &Console) {
+    for i in 2..usize::MAX {
+        if !argument(rt, console, i) {
+            return;
+        }
     }
 }
 
-// Linux hands over no argument longer than this.
-fn argument(i: usize) {
+// Whether there is such an argument. Linux hands over none longer than this.
+fn argument(rt: &HostRuntime, console: &Console, i: usize) -> bool {
     let mut name = [0u8; 131072];
-    let length = os::arg(i, &mut name);
-    file(between(&name, 0, length));
+    match rt.arg(i, &mut name) {
+        Ok(length) => {
+            file(rt, console, between(&name, 0, length));
+            true
+        }
+        Err(FillError::TooLong) => {
+            file(rt, console, b"");
+            true
+        }
+        Err(FillError::NotPresent) => false,
+    }
 }
 
-fn file(name: &[u8]) {
-    text(b"script ");
-    text(name);
+fn file(rt: &HostRuntime, console: &Console, name: &[u8]) {
+    text(console, b"script ");
+    text(console, name);
     if same(name, b"-") {
-        text(b"\n");
-        script(STDIN_FILENO);
+        text(console, b"\n");
+        input(rt, console);
         return;
     }
-    let fd = os::open_read(name);
-    if fd < 0 {
-        text(b" can't be read\n");
-        report(b"unread\n");
-        return;
+    match opened(rt, name) {
+        Some(opened) => {
+            let mut from = opened;
+            text(console, b"\n");
+            script(console, &mut from, false);
+        }
+        None => {
+            text(console, b" can't be read\n");
+            report(console, b"unread\n");
+        }
     }
-    text(b"\n");
-    script(fd);
-    libc::close(fd);
+}
+
+// A name that is not text names no file here.
+fn opened(rt: &HostRuntime, name: &[u8]) -> Option<File> {
+    match str::from_utf8(name) {
+        Ok(path) => File::open(rt, path).ok(),
+        Err(_) => None,
+    }
+}
+
+// Standard input, at which a person may sit.
+fn input(rt: &HostRuntime, console: &Console) {
+    let mut from = rt.stdin();
+    script(console, &mut from, is_person(console));
 }

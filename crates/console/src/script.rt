@@ -1,12 +1,13 @@
 // A script: lines read to the end of a file, each answered as soon as it is whole.
 use crate::answer::{Sitting, answer, not_understood};
 use lines::{
-    LONGEST, Stretch, TYPED, append, around, between, end_of, is_person, read_some, report_number,
+    Console, LONGEST, Stretch, TYPED, append, around, between, end_of, read_some, report_number,
     text,
 };
 use shown::help;
+use std::io::Read;
 
-#[derive(Drop)]
+#[derive(Clone, Copy)]
 struct Reading {
     sitting: Sitting,
     length: usize, // of the line so far; LONGEST + 1 for any that is too long
@@ -14,14 +15,13 @@ struct Reading {
     more: bool, // whether to ask for more
 }
 
-pub fn script(fd: i32) {
+pub fn script<R: Read>(console: &Console, from: &mut R, watched: bool) {
     let mut board = [0u8; 40000];
     let mut sizes = [0u8; 64];
     let mut rules = [0u16; 9000];
     let mut numbers = [0u32; 9000];
-    let watched = is_person(fd);
     if watched {
-        help::start();
+        help::start(console);
     }
     let room = room::trolley(&mut board, &mut sizes, &mut rules, watched);
     let start = Sitting {
@@ -31,20 +31,29 @@ pub fn script(fd: i32) {
         not_understood: 0,
         ended: false,
     };
-    let sitting = lines(fd, start, &mut board, &mut sizes, &mut rules, &mut numbers);
+    let sitting = lines(
+        console,
+        from,
+        start,
+        &mut board,
+        &mut sizes,
+        &mut rules,
+        &mut numbers,
+    );
     if watched {
         if !sitting.ended {
-            text(b"\n");
+            text(console, b"\n");
         }
     }
-    around(b"end: ", sitting.answered, b" answered, ");
-    around(b"", sitting.not_understood, b" not understood\n");
-    report_number(b"end ", sitting.not_understood);
+    around(console, b"end: ", sitting.answered, b" answered, ");
+    around(console, b"", sitting.not_understood, b" not understood\n");
+    report_number(console, b"end ", sitting.not_understood);
 }
 
 // The last line may lack its line feed; after quit, and where it doesn't, none of it is left.
-fn lines(
-    fd: i32,
+fn lines<R: Read>(
+    console: &Console,
+    from: &mut R,
     start: Sitting,
     board: &mut [u8],
     sizes: &mut [u8],
@@ -60,9 +69,10 @@ fn lines(
     };
     let mut chunk = [0u8; 65536];
     let last = read_all(
-        fd, reading, board, sizes, rules, numbers, &mut line, &mut chunk,
+        console, from, reading, board, sizes, rules, numbers, &mut line, &mut chunk,
     );
     whole(
+        console,
         last.sitting,
         board,
         sizes,
@@ -74,8 +84,9 @@ fn lines(
 }
 
 // Nothing says that input ends, so the loop counts its turns down from a number that no run uses up.
-fn read_all(
-    fd: i32,
+fn read_all<R: Read>(
+    console: &Console,
+    from: &mut R,
     start: Reading,
     board: &mut [u8],
     sizes: &mut [u8],
@@ -85,19 +96,20 @@ fn read_all(
     chunk: &mut [u8],
 ) -> Reading {
     let mut reading = start;
-    let mut turns = u64::MAX;
-    while 0 < turns {
-        reading = read_on(fd, reading, board, sizes, rules, numbers, line, chunk);
+    for _ in 0..u64::MAX {
+        reading = read_on(
+            console, from, reading, board, sizes, rules, numbers, line, chunk,
+        );
         if !reading.more {
             return reading;
         }
-        turns -= 1;
     }
     reading
 }
 
-fn read_on(
-    fd: i32,
+fn read_on<R: Read>(
+    console: &Console,
+    from: &mut R,
     reading: Reading,
     board: &mut [u8],
     sizes: &mut [u8],
@@ -106,12 +118,13 @@ fn read_on(
     line: &mut [u8],
     chunk: &mut [u8],
 ) -> Reading {
-    prompt(reading);
-    let count = read_some(fd, chunk);
+    prompt(console, reading);
+    let count = read_some(console, from, chunk);
     let mut before = reading;
     before.at = 0;
     before.more = 0 < count;
     feed(
+        console,
         before,
         board,
         sizes,
@@ -123,18 +136,19 @@ fn read_on(
 }
 
 // A person is asked for each line.
-fn prompt(reading: Reading) {
+fn prompt(console: &Console, reading: Reading) {
     let sitting = reading.sitting;
     let room = sitting.room;
     if reading.length == 0 {
         if room.watched {
-            text(b"> ");
+            text(console, b"> ");
         }
     }
 }
 
 // Answers each line that these bytes end.
 fn feed(
+    console: &Console,
     before: Reading,
     board: &mut [u8],
     sizes: &mut [u8],
@@ -146,7 +160,7 @@ fn feed(
     let mut reading = before;
     let mut left = bytes.len();
     while 0 < left {
-        reading = next_line(reading, board, sizes, rules, numbers, line, bytes);
+        reading = next_line(console, reading, board, sizes, rules, numbers, line, bytes);
         if is_over(reading, bytes.len()) {
             return reading;
         }
@@ -164,6 +178,7 @@ fn is_over(reading: Reading, count: usize) -> bool {
 
 // Takes what these bytes have of one line, and answers the line if they end it.
 fn next_line(
+    console: &Console,
     reading: Reading,
     board: &mut [u8],
     sizes: &mut [u8],
@@ -182,13 +197,23 @@ fn next_line(
     }
     after.length = 0;
     after.at = end + 1;
-    let sitting = whole(reading.sitting, board, sizes, rules, numbers, line, length);
+    let sitting = whole(
+        console,
+        reading.sitting,
+        board,
+        sizes,
+        rules,
+        numbers,
+        line,
+        length,
+    );
     after.sitting = sitting;
     after.more = !sitting.ended;
     after
 }
 
 fn whole(
+    console: &Console,
     before: Sitting,
     board: &mut [u8],
     sizes: &mut [u8],
@@ -200,19 +225,21 @@ fn whole(
     let mut sitting = before;
     sitting.lines = std::num::wrapping_add_u64(before.lines, 1);
     if LONGEST < length {
-        text(b"not understood; a line has at most 65536 bytes\n");
-        return not_understood(sitting);
+        text(console, b"not understood; a line has at most 65536 bytes\n");
+        return not_understood(console, sitting);
     }
     let room = sitting.room;
     if room.watched {
         if TYPED <= length {
             text(
+                console,
                 b"not understood; a terminal cuts a line after 4095 bytes: use more, or a script\n",
             );
-            return not_understood(sitting);
+            return not_understood(console, sitting);
         }
     }
     answer(
+        console,
         sitting,
         board,
         sizes,

@@ -2,6 +2,7 @@
 use std::fs;
 use std::fs::File;
 use std::io::{Stdin, Stdout};
+use std::os::fd::AsRawFd;
 
 // The descriptor where the program that runs the console is told how it goes, if that program opened it.
 const REPORT: &str = "/proc/self/fd/9";
@@ -30,19 +31,29 @@ impl Console {
 
 // Each report stands after what is there.
 fn reports(rt: &HostRuntime) -> Option<File> {
-    File::options().append(true).open(rt, REPORT).ok()
+    let file = File::options().append(true).open(rt, REPORT).ok()?;
+    raised(file, 10)
 }
 
 // Of a file a read never waits, so nothing else is looked at.
 fn stops(rt: &HostRuntime) -> Option<File> {
-    match fs::metadata(rt, STOP) {
-        Ok(about) => {
-            if about.is_file() {
-                File::open(rt, STOP).ok()
-            } else {
-                None
-            }
-        }
-        Err(_) => None,
+    let about = fs::metadata(rt, STOP).ok()?;
+    if !about.is_file() {
+        return None;
     }
+    let file = File::open(rt, STOP).ok()?;
+    raised(file, 10)
+}
+
+// The same file under a number above 9. What is opened takes the least that is free: that may be the number of a standard
+// stream that is closed, and what is written there would come to this file.
+fn raised(file: File, turns: u8) -> Option<File> {
+    if 9 < file.as_raw_fd() {
+        return Some(file);
+    }
+    if turns == 0 {
+        return None;
+    }
+    let next = file.try_clone().ok()?;
+    raised(next, turns - 1)
 }

@@ -68,7 +68,7 @@ module _ {M : Type 1} {𝓤 : Ura M} (𝓛 : Logic 𝓤) where
     pub example_contract : example.spec 𝓛 mem run ≡ Always example.ended (λ κs handed answer left.
         let c = (numbers handed).0 in let i = (numbers handed).1.0 in let a = (numbers handed).1.1.0 in
         let made = outcome handed (asks c (Read (Example i a))) in
-        ⌜ BytesAre made answer.now ⌝ ∗ ⌜ BeginsAt made handed.1.0.ptr c i a answer.ref_ptr ⌝)
+        ⌜ BytesAre made answer.now ⌝ ∗ ⌜ BeginsAt made handed.1.0.ref_ptr c i a answer.ref_ptr ⌝)
     example_contract = refl
 
     pub example_number_contract : example_number.spec 𝓛 mem run ≡ Always example_number.ended (λ κs handed answer left.

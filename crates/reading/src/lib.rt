@@ -1,4 +1,6 @@
 // The calls that read a seat: the rule that its search ran into of any open one, all else of a ready one.
+#![tactic(auto)]
+
 ghost use Rattle.std.specs.Prelude.{◌≡◌};
 ghost use Rattle.runs.specs.declared.Asking.TheVariants.{Read};
 ghost use Rattle.runs.specs.declared.Reading.TheVariants.{Options, Alternatives, Example, RanInto};

@@ -3,12 +3,13 @@ use desk::{Changed, Desk, Left, Ran, Turned};
 use lines::commands::{
     ALTERNATIVES, CHOOSE, ENTER, EXAMPLE, LEAVE, OPEN, OPTIONS, RAN_INTO, RELAX, TURNS,
 };
-use lines::{around, entries, text};
+use lines::{Console, around, entries, text};
 use shown::{
     Asked, Lengths, accepted, beside, option_of_feature, options_of, refused, rule_met, turns_made,
 };
 
 pub fn call(
+    console: &Console,
     desk: Desk,
     board: &mut [u8],
     sizes: &[u8],
@@ -18,29 +19,30 @@ pub fn call(
 ) -> Desk {
     match command {
         OPTIONS => {
-            options(desk, board, sizes, rules, asked);
+            options(console, desk, board, sizes, rules, asked);
             desk
         }
         ALTERNATIVES => {
-            alternatives(desk, board, sizes, rules, asked);
+            alternatives(console, desk, board, sizes, rules, asked);
             desk
         }
         EXAMPLE => {
-            example(desk, board, sizes, rules, asked);
+            example(console, desk, board, sizes, rules, asked);
             desk
         }
         RAN_INTO => {
-            ran_into(desk, board, sizes, rules, asked);
+            ran_into(console, desk, board, sizes, rules, asked);
             desk
         }
-        TURNS => turns(desk, board, sizes, rules, asked),
-        _ => change(desk, board, sizes, rules, command, asked),
+        TURNS => turns(console, desk, board, sizes, rules, asked),
+        _ => change(console, desk, board, sizes, rules, command, asked),
     }
 }
 
 // The calls that answer nothing but the desk. A refused open hands back a closed desk, which is not kept; any other call
 // the desk as it came.
 fn change(
+    console: &Console,
     desk: Desk,
     board: &mut [u8],
     sizes: &[u8],
@@ -51,11 +53,11 @@ fn change(
     let changed = changed(desk, board, sizes, rules, command, asked);
     let refusal = changed.number;
     if refusal == 0 {
-        accepted(command, asked);
+        accepted(console, command, asked);
         return changed.desk;
     }
-    refused(refusal, lengths(board, sizes, rules), asked);
-    text(b"\n");
+    refused(console, refusal, lengths(board, sizes, rules), asked);
+    text(console, b"\n");
     if command == OPEN {
         return desk;
     }
@@ -82,20 +84,27 @@ fn changed(
     }
 }
 
-fn turns(desk: Desk, board: &mut [u8], sizes: &[u8], rules: &[u16], asked: Asked) -> Desk {
+fn turns(
+    console: &Console,
+    desk: Desk,
+    board: &mut [u8],
+    sizes: &[u8],
+    rules: &[u16],
+    asked: Asked,
+) -> Desk {
     let turned = turned(desk, board, sizes, rules, asked.seat);
     let refusal = turned.number;
     if refusal != 0 {
-        refused(refusal, lengths(board, sizes, rules), asked);
+        refused(console, refusal, lengths(board, sizes, rules), asked);
     }
     if refusal == 0 {
-        turns_made(turned.made, turned.working);
+        turns_made(console, turned.made, turned.working);
     } else if turned.made != 0 {
-        beside(turned.made, turned.working);
+        beside(console, turned.made, turned.working);
     } else if turned.working {
-        beside(turned.made, turned.working);
+        beside(console, turned.made, turned.working);
     }
-    text(b"\n");
+    text(console, b"\n");
     turned.desk
 }
 
@@ -103,14 +112,22 @@ fn turned(desk: Desk, board: &mut [u8], sizes: &[u8], rules: &[u16], w: u32) -> 
     desk::turns(desk, board, sizes, rules, (w % 65536) as u16)
 }
 
-fn options(desk: Desk, board: &[u8], sizes: &[u8], rules: &[u16], asked: Asked) {
+fn options(console: &Console, desk: Desk, board: &[u8], sizes: &[u8], rules: &[u16], asked: Asked) {
     let left = left(desk, board, sizes, rules, asked.seat, asked.feature);
-    mask_answered(left, lengths(board, sizes, rules), asked, b" left");
+    mask_answered(console, left, lengths(board, sizes, rules), asked, b" left");
 }
 
-fn alternatives(desk: Desk, board: &[u8], sizes: &[u8], rules: &[u16], asked: Asked) {
+fn alternatives(
+    console: &Console,
+    desk: Desk,
+    board: &[u8],
+    sizes: &[u8],
+    rules: &[u16],
+    asked: Asked,
+) {
     let others = replacing(desk, board, sizes, rules, asked);
     mask_answered(
+        console,
         others,
         lengths(board, sizes, rules),
         asked,
@@ -119,24 +136,24 @@ fn alternatives(desk: Desk, board: &[u8], sizes: &[u8], rules: &[u16], asked: As
 }
 
 // A refusal answers no mask; were there one, it would be seen.
-fn mask_answered(left: Left, lengths: Lengths, asked: Asked, what: &[u8]) {
+fn mask_answered(console: &Console, left: Left, lengths: Lengths, asked: Asked, what: &[u8]) {
     let refusal = left.number;
     if refusal != 0 {
-        refused(refusal, lengths, asked);
+        refused(console, refusal, lengths, asked);
     }
     if refusal == 0 {
-        options_of_feature(left, asked.feature, what);
+        options_of_feature(console, left, asked.feature, what);
     } else if left.mask != 0 {
-        mask_beside(left, asked.feature, what);
+        mask_beside(console, left, asked.feature, what);
     } else if left.count != 0 {
-        mask_beside(left, asked.feature, what);
+        mask_beside(console, left, asked.feature, what);
     }
-    text(b"\n");
+    text(console, b"\n");
 }
 
-fn mask_beside(left: Left, feature: u32, what: &[u8]) {
-    text(b"; ");
-    options_of_feature(left, feature, what);
+fn mask_beside(console: &Console, left: Left, feature: u32, what: &[u8]) {
+    text(console, b"; ");
+    options_of_feature(console, left, feature, what);
 }
 
 pub fn left(desk: Desk, board: &[u8], sizes: &[u8], rules: &[u16], c: u32, i: u32) -> Left {
@@ -150,24 +167,24 @@ pub fn replacing(desk: Desk, board: &[u8], sizes: &[u8], rules: &[u16], asked: A
 }
 
 // How many options of a feature, what they are, and which.
-pub fn options_of_feature(left: Left, feature: u32, what: &[u8]) {
-    around(b"feature ", feature as u64, b": ");
-    around(b"", left.count as u64, what);
+pub fn options_of_feature(console: &Console, left: Left, feature: u32, what: &[u8]) {
+    around(console, b"feature ", feature as u64, b": ");
+    around(console, b"", left.count as u64, what);
     if left.mask != 0 {
-        text(b":");
-        options_of(left.mask);
+        text(console, b":");
+        options_of(console, left.mask);
     }
 }
 
-fn example(desk: Desk, board: &[u8], sizes: &[u8], rules: &[u16], asked: Asked) {
+fn example(console: &Console, desk: Desk, board: &[u8], sizes: &[u8], rules: &[u16], asked: Asked) {
     let refusal = example_number(desk, board, sizes, rules, asked);
     if refusal == 0 {
-        option_of_feature(asked, b":");
+        option_of_feature(console, asked, b":");
     } else {
-        refused(refusal, lengths(board, sizes, rules), asked);
+        refused(console, refusal, lengths(board, sizes, rules), asked);
     }
-    entries(example_bytes(desk, board, sizes, rules, asked));
-    text(b"\n");
+    entries(console, example_bytes(desk, board, sizes, rules, asked));
+    text(console, b"\n");
 }
 
 fn example_number(desk: Desk, board: &[u8], sizes: &[u8], rules: &[u16], asked: Asked) -> u8 {
@@ -191,22 +208,29 @@ pub fn example_bytes<'a>(
 }
 
 // A refusal answers rule 0; were it another, it would be seen.
-pub fn ran_into(desk: Desk, board: &[u8], sizes: &[u8], rules: &[u16], asked: Asked) {
+pub fn ran_into(
+    console: &Console,
+    desk: Desk,
+    board: &[u8],
+    sizes: &[u8],
+    rules: &[u16],
+    asked: Asked,
+) {
     let ran = ran(desk, board, sizes, rules, asked.seat);
     let refusal = ran.number;
     if refusal == 0 {
-        rule_met(asked.seat, ran.rule);
+        rule_met(console, asked.seat, ran.rule);
     } else {
-        refused(refusal, lengths(board, sizes, rules), asked);
-        rule_beside(asked.seat, ran.rule);
+        refused(console, refusal, lengths(board, sizes, rules), asked);
+        rule_beside(console, asked.seat, ran.rule);
     }
-    text(b"\n");
+    text(console, b"\n");
 }
 
-fn rule_beside(seat: u32, rule: u8) {
+fn rule_beside(console: &Console, seat: u32, rule: u8) {
     if rule != 0 {
-        text(b"; ");
-        rule_met(seat, rule);
+        text(console, b"; ");
+        rule_met(console, seat, rule);
     }
 }
 

@@ -1,14 +1,14 @@
 // A number that tells two desks or boards apart: sixteen hexadecimal digits.
 use desk::Desk;
-use lines::{hexadecimal, text};
+use lines::{Console, hexadecimal, text};
 use shown::digest::{fold, of_seat};
 
-pub fn digest(desk: Desk, board: &[u8]) {
+pub fn digest(console: &Console, desk: Desk, board: &[u8]) {
     let next = [desk.next];
     let with_desk = fold(of_seats(desk), &next);
-    text(b"digest ");
-    hexadecimal(fold(with_desk, board));
-    text(b"\n");
+    text(console, b"digest ");
+    hexadecimal(console, fold(with_desk, board));
+    text(console, b"\n");
 }
 
 fn of_seats(desk: Desk) -> u64 {

@@ -1,4 +1,6 @@
 // What the console holds, one desk with its board and catalogue, and what each command does to them.
+#![tactic(auto)]
+
 mod calls;
 mod commands;
 mod digest;
@@ -13,7 +15,7 @@ use desk::Desk;
 pub use setup::trolley;
 
 // The lent memory has room for more than is in use: a board of `board_length` bytes, and so on.
-#[derive(Drop)]
+#[derive(Clone, Copy)]
 pub struct Room {
     pub desk: Desk,
     pub board_length: usize,

@@ -2,7 +2,9 @@
 use crate::Room;
 use desk::Desk;
 use lines::commands::{BOARD, MORE, RULES, SET_BYTE, SIZES};
-use lines::{around, at, between, byte, fill, least, put_rules, put_sizes, set_byte, text};
+use lines::{
+    Console, around, at, between, byte, fill, least, put_rules, put_sizes, set_byte, text,
+};
 
 const TROLLEY_SIZES: [u32; 3] = [3, 3, 2];
 // rule A on features 0, 1: (0,1) (1,0) (1,2) (2,1); rule B on features 1, 2: (0,0) (1,1) (2,0) (2,1)
@@ -29,6 +31,7 @@ pub fn trolley(board: &mut [u8], sizes: &mut [u8], rules: &mut [u16], watched: b
 }
 
 pub fn set(
+    console: &Console,
     room: Room,
     board: &mut [u8],
     sizes: &mut [u8],
@@ -37,50 +40,57 @@ pub fn set(
     numbers: &[u32],
 ) -> Room {
     match command {
-        SIZES => set_sizes(room, sizes, numbers),
-        RULES => add_rules(room, 0, sizes, rules, numbers),
-        MORE => add_rules(room, room.rules_count, sizes, rules, numbers),
-        BOARD => set_board(room, board, at(numbers, 0), at(numbers, 1)),
+        SIZES => set_sizes(console, room, sizes, numbers),
+        RULES => add_rules(console, room, 0, sizes, rules, numbers),
+        MORE => add_rules(console, room, room.rules_count, sizes, rules, numbers),
+        BOARD => set_board(console, room, board, at(numbers, 0), at(numbers, 1)),
         SET_BYTE => {
-            set_byte(board, at(numbers, 0), at(numbers, 1));
+            set_byte(console, board, at(numbers, 0), at(numbers, 1));
             room
         }
         _ => {
-            text(b"the trolley, eight seats closed\n");
+            text(console, b"the trolley, eight seats closed\n");
             trolley(board, sizes, rules, room.watched)
         }
     }
 }
 
-fn set_sizes(room: Room, sizes: &mut [u8], numbers: &[u32]) -> Room {
+fn set_sizes(console: &Console, room: Room, sizes: &mut [u8], numbers: &[u32]) -> Room {
     let mut changed = room;
     changed.sizes_count = put_sizes(sizes, numbers);
-    let good = written::sizes(between(sizes, 0, changed.sizes_count));
-    say_open(room.desk, good);
+    let good = written::sizes(console, between(sizes, 0, changed.sizes_count));
+    say_open(console, room.desk, good);
     changed
 }
 
 // The rule list up to a place, and the numbers after it.
-fn add_rules(room: Room, from: usize, sizes: &[u8], rules: &mut [u16], numbers: &[u32]) -> Room {
+fn add_rules(
+    console: &Console,
+    room: Room,
+    from: usize,
+    sizes: &[u8],
+    rules: &mut [u16],
+    numbers: &[u32],
+) -> Room {
     let mut changed = room;
     let count = put_rules(rules, from, numbers);
     changed.rules_count = count;
     let r = least(count, rules.len());
-    let good = written::rules(between(sizes, 0, room.sizes_count), &rules[0..r]);
-    say_open(room.desk, good);
+    let good = written::rules(console, between(sizes, 0, room.sizes_count), &rules[0..r]);
+    say_open(console, room.desk, good);
     changed
 }
 
 // A new catalogue leaves the desk as it is, and one with a fault is not opened.
-fn say_open(desk: Desk, good: bool) {
+fn say_open(console: &Console, desk: Desk, good: bool) {
     if !some_open(desk) {
         return;
     }
-    text(b"seats are still open on the old catalogue; ");
+    text(console, b"seats are still open on the old catalogue; ");
     if !good {
-        text(b"mend the fault, then ");
+        text(console, b"mend the fault, then ");
     }
-    text(b"open begins anew\n");
+    text(console, b"open begins anew\n");
 }
 
 fn some_open(desk: Desk) -> bool {
@@ -95,11 +105,11 @@ fn some_open(desk: Desk) -> bool {
     false
 }
 
-fn set_board(room: Room, board: &mut [u8], length: u32, value: u32) -> Room {
+fn set_board(console: &Console, room: Room, board: &mut [u8], length: u32, value: u32) -> Room {
     let mut changed = room;
     changed.board_length = length as usize;
     fill(board, length as usize, byte(value));
-    around(b"board: ", length as u64, b" bytes of ");
-    around(b"", value as u64, b"\n");
+    around(console, b"board: ", length as u64, b" bytes of ");
+    around(console, b"", value as u64, b"\n");
     changed
 }

@@ -1,22 +1,22 @@
 // Looking at the desk.
 use desk::Desk;
-use lines::around;
+use lines::{Console, around};
 use shown::record;
 
-pub fn desk(desk: Desk) {
-    around(b"next ", desk.next as u64, b"\n");
+pub fn desk(console: &Console, desk: Desk) {
+    around(console, b"next ", desk.next as u64, b"\n");
     let mut c = 0usize;
     while c < 8 {
-        seat(desk, c);
+        seat(console, desk, c);
         c += 1;
     }
 }
 
-pub fn seat(desk: Desk, c: usize) {
+pub fn seat(console: &Console, desk: Desk, c: usize) {
     if 8 <= c {
         return;
     }
     let seats = desk.seats;
-    around(b"seat ", c as u64, b": ");
-    record(seats[c]);
+    around(console, b"seat ", c as u64, b": ");
+    record(console, seats[c]);
 }

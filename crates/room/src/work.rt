@@ -1,7 +1,7 @@
 // Turns in portions until a seat is ready.
 use crate::calls::{left, lengths};
 use desk::Desk;
-use lines::{around, asked_to_stop, counted, report, text};
+use lines::{Console, around, asked_to_stop, counted, report, text};
 use look::is_at_work;
 use seat::Seat;
 use shown::{Asked, nothing_left, pair, refused};
@@ -9,7 +9,7 @@ use shown::{Asked, nothing_left, pair, refused};
 // The most turns that one call makes.
 const PORTION: u16 = 65535;
 
-#[derive(Drop)]
+#[derive(Clone, Copy)]
 struct Worked {
     desk: Desk,
     turns: u64,
@@ -20,6 +20,7 @@ struct Worked {
 }
 
 pub fn work(
+    console: &Console,
     desk: Desk,
     board: &mut [u8],
     sizes: &[u8],
@@ -31,8 +32,8 @@ pub fn work(
     let refusal = first.number;
     if refusal != 0 {
         if refusal != 33 {
-            refused(refusal, lengths(board, sizes, rules), asked);
-            text(b"\n");
+            refused(console, refusal, lengths(board, sizes, rules), asked);
+            text(console, b"\n");
             return desk;
         }
     }
@@ -44,31 +45,45 @@ pub fn work(
         watched,
         shown: false,
     };
-    let worked = reported(start, board, sizes, rules, asked.seat);
-    ended(worked, sizes, asked.seat);
+    let worked = reported(console, start, board, sizes, rules, asked.seat);
+    ended(console, worked, sizes, asked.seat);
     worked.desk
 }
 
 // A stop that was asked for before is none of this work's.
-fn reported(start: Worked, board: &mut [u8], sizes: &[u8], rules: &[u16], seat: u32) -> Worked {
+fn reported(
+    console: &Console,
+    start: Worked,
+    board: &mut [u8],
+    sizes: &[u8],
+    rules: &[u16],
+    seat: u32,
+) -> Worked {
     if start.watched {
-        asked_to_stop();
+        asked_to_stop(console);
     }
-    report(b"working\n");
-    let work = until_ready(start, board, sizes, rules, seat);
-    report(b"resting\n");
+    report(console, b"working\n");
+    let work = until_ready(console, start, board, sizes, rules, seat);
+    report(console, b"resting\n");
     work
 }
 
 // No count is known beforehand, so the loop counts down from a number that no run uses up.
-fn until_ready(start: Worked, board: &mut [u8], sizes: &[u8], rules: &[u16], seat: u32) -> Worked {
+fn until_ready(
+    console: &Console,
+    start: Worked,
+    board: &mut [u8],
+    sizes: &[u8],
+    rules: &[u16],
+    seat: u32,
+) -> Worked {
     let mut work = start;
     let mut left = u64::MAX;
     while 0 < left {
         if is_over(work, seat) {
             return work;
         }
-        work = watch(portion(work, board, sizes, rules), sizes, seat);
+        work = watch(console, portion(work, board, sizes, rules), sizes, seat);
         left -= 1;
     }
     work
@@ -87,8 +102,8 @@ fn portion(work: Worked, board: &mut [u8], sizes: &[u8], rules: &[u16]) -> Worke
     let desk = turned.desk;
     Worked {
         desk,
-        turns: std::num::wrapping_add_u64(work.turns, turned.made as u64),
-        portions: std::num::wrapping_add_u64(work.portions, 1),
+        turns: work.turns.wrapping_add(turned.made as u64),
+        portions: work.portions.wrapping_add(1),
         stopped: turned.number != 0,
         watched: work.watched,
         shown: work.shown,
@@ -96,25 +111,25 @@ fn portion(work: Worked, board: &mut [u8], sizes: &[u8], rules: &[u16]) -> Worke
 }
 
 // Shows a person how far it is, and looks whether to stop.
-fn watch(work: Worked, sizes: &[u8], seat: u32) -> Worked {
+fn watch(console: &Console, work: Worked, sizes: &[u8], seat: u32) -> Worked {
     if !work.watched {
         return work;
     }
-    let mut seen = show(work, record_of(work.desk, seat), sizes);
-    if asked_to_stop() {
+    let mut seen = show(console, work, record_of(work.desk, seat), sizes);
+    if asked_to_stop(console) {
         seen.stopped = true;
     }
     seen
 }
 
 // Every so often, while there is something to show.
-fn show(work: Worked, record: Seat, sizes: &[u8]) -> Worked {
+fn show(console: &Console, work: Worked, record: Seat, sizes: &[u8]) -> Worked {
     let mut shown = work;
     if work.portions % 8 == 0 {
         if is_at_work(record) {
-            write_over(work.shown);
-            pair(record, sizes);
-            around(b", ", work.turns, b" turns so far\n");
+            write_over(console, work.shown);
+            pair(console, record, sizes);
+            around(console, b", ", work.turns, b" turns so far\n");
             shown.shown = true;
         }
     }
@@ -122,32 +137,32 @@ fn show(work: Worked, record: Seat, sizes: &[u8]) -> Worked {
 }
 
 // What was shown is a whole line, which a line editor lets through at once: one line up, and all from there on erased.
-fn write_over(shown: bool) {
+fn write_over(console: &Console, shown: bool) {
     if shown {
-        text(b"\x1b[A\r\x1b[J");
+        text(console, b"\x1b[A\r\x1b[J");
     }
 }
 
-fn ended(work: Worked, sizes: &[u8], seat: u32) {
+fn ended(console: &Console, work: Worked, sizes: &[u8], seat: u32) {
     let record = record_of(work.desk, seat);
-    write_over(work.shown);
+    write_over(console, work.shown);
     if is_at_work(record) {
-        around(b"stopped: seat ", seat as u64, b" is at work: ");
-        pair(record, sizes);
+        around(console, b"stopped: seat ", seat as u64, b" is at work: ");
+        pair(console, record, sizes);
     } else {
-        around(b"seat ", seat as u64, b" is ready");
+        around(console, b"seat ", seat as u64, b" is ready");
     }
-    text(b" after ");
-    counted(work.turns, b"turn");
-    text(b"\n");
+    text(console, b" after ");
+    counted(console, work.turns, b"turn");
+    text(console, b"\n");
     if !is_at_work(record) {
-        no_product(record, sizes);
+        no_product(console, record, sizes);
     }
 }
 
-pub fn no_product(record: Seat, sizes: &[u8]) {
+pub fn no_product(console: &Console, record: Seat, sizes: &[u8]) {
     if nothing_left(record, sizes.len()) {
-        text(b"no product satisfies these rules\n");
+        text(console, b"no product satisfies these rules\n");
     }
 }
 

@@ -1,58 +1,58 @@
 // The words of an accepted call.
 use crate::refusal::{Asked, option_of_feature};
 use lines::commands::{CHOOSE, ENTER, LEAVE, OPEN};
-use lines::{around, number, text};
+use lines::{Console, around, number, text};
 
-pub fn accepted(command: usize, asked: Asked) {
+pub fn accepted(console: &Console, command: usize, asked: Asked) {
     let seat = asked.seat as u64;
     match command {
-        OPEN => text(b"opened: eight seats, all closed\n"),
-        ENTER => around(b"seat ", seat, b" has entered and is at work\n"),
-        LEAVE => around(b"seat ", seat, b" has left\n"),
+        OPEN => text(console, b"opened: eight seats, all closed\n"),
+        ENTER => around(console, b"seat ", seat, b" has entered and is at work\n"),
+        LEAVE => around(console, b"seat ", seat, b" has left\n"),
         CHOOSE => {
-            around(b"seat ", seat, b" chose ");
-            option_of_feature(asked, b" and is at work\n");
+            around(console, b"seat ", seat, b" chose ");
+            option_of_feature(console, asked, b" and is at work\n");
         }
         _ => {
-            around(b"seat ", seat, b" dropped its choice of feature ");
-            number(asked.feature as u64);
-            text(b" and is at work\n");
+            around(console, b"seat ", seat, b" dropped its choice of feature ");
+            number(console, asked.feature as u64);
+            text(console, b" and is at work\n");
         }
     }
 }
 
 // What no refusal has beside it; a refusal that had would be seen.
-pub fn beside(made: u16, working: bool) {
-    text(b"; ");
-    turns_made(made, working);
+pub fn beside(console: &Console, made: u16, working: bool) {
+    text(console, b"; ");
+    turns_made(console, made, working);
 }
 
-pub fn turns_made(made: u16, working: bool) {
-    number(made as u64);
+pub fn turns_made(console: &Console, made: u16, working: bool) {
+    number(console, made as u64);
     if working {
-        text(b" turns made, a seat is at work");
+        text(console, b" turns made, a seat is at work");
     } else {
-        text(b" turns made, no seat is at work");
+        text(console, b" turns made, no seat is at work");
     }
 }
 
 // Which rule the search of a seat ran into last; 255 is none.
-pub fn rule_met(seat: u32, rule: u8) {
+pub fn rule_met(console: &Console, seat: u32, rule: u8) {
     if rule == 255 {
-        around(b"seat ", seat as u64, b" has run into no rule");
+        around(console, b"seat ", seat as u64, b" has run into no rule");
     } else {
-        around(b"seat ", seat as u64, b" last ran into rule ");
-        number(rule as u64);
+        around(console, b"seat ", seat as u64, b" last ran into rule ");
+        number(console, rule as u64);
     }
 }
 
 // The bits of a mask, rising.
-pub fn options_of(mask: u16) {
+pub fn options_of(console: &Console, mask: u16) {
     let mut rest = mask;
     let mut a = 0u64;
     while a < 16 {
         if rest % 2 == 1 {
-            around(b" ", a, b"");
+            around(console, b" ", a, b"");
         }
         rest = rest / 2;
         a += 1;

@@ -48,8 +48,8 @@ pub fn fold(h: u64, bytes: &[u8]) -> u64 {
 }
 
 fn step(h: u64, b: u64) -> u64 {
-    let sum = std::num::wrapping_add_u64(std::num::wrapping_add_u64(h, b), 1);
-    let spread = std::num::wrapping_add_u64(sum, sum << 10);
+    let sum = h.wrapping_add(b).wrapping_add(1);
+    let spread = sum.wrapping_add(sum << 10);
     spread ^ (spread >> 6)
 }
 

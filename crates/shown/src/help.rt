@@ -1,5 +1,5 @@
 // What the console says of itself.
-use lines::text;
+use lines::{Console, text};
 
 const START: [u8; 809] =
     *b"Nethazel: a configurator desk for eight clinics. Each sits at a seat, 0 to 7,
@@ -62,12 +62,12 @@ commas between.
 ";
 
 // For a person who has just sat down.
-pub fn start() {
+pub fn start(console: &Console) {
     let lines = START;
-    text(&lines);
+    text(console, &lines);
 }
 
-pub fn help() {
+pub fn help(console: &Console) {
     let lines = HELP;
-    text(&lines);
+    text(console, &lines);
 }

@@ -1,5 +1,7 @@
 // What the console shows, short of the desk: help, the words of accepted calls and of refusals, a seat's record, a share of
 // the board, and the number that tells two of them apart.
+#![tactic(auto)]
+
 mod acceptance;
 mod clinic;
 pub mod digest;

@@ -1,7 +1,9 @@
 // The listing program. It reads nothing. On the trolley seat 3 enters, is turned until ready, chooses option 0 of
 // feature 2 and is turned again; then it prints a line for each feature: its number, the options left, their count.
+#![tactic(auto)]
+
 use desk::Desk;
-use libc::STDOUT_FILENO;
+use std::io;
 
 const SIZES: [u8; 3] = [3, 3, 2];
 // rule A on features 0, 1: (0,1) (1,0) (1,2) (2,1); rule B on features 1, 2: (0,0) (1,1) (2,0) (2,1)
@@ -9,7 +11,7 @@ const RULES: [u16; 24] = [
     2, 4, 0, 1, 0, 1, 1, 0, 1, 2, 2, 1, 2, 4, 1, 2, 0, 0, 1, 1, 2, 0, 2, 1,
 ];
 
-fn main() {
+fn main(rt: HostRuntime) -> io::Result<()> {
     let sizes = SIZES;
     let rules = RULES;
     let mut board = [0u8; 32768];
@@ -18,40 +20,45 @@ fn main() {
     let ready = desk::turns(entered.desk, &mut board, &sizes, &rules, 65535);
     let chosen = desk::choose(ready.desk, &mut board, &sizes, &rules, 3, 2, 0);
     let again = desk::turns(chosen.desk, &mut board, &sizes, &rules, 65535);
-    list(again.desk, &board, &sizes, &rules, 0);
-    list(again.desk, &board, &sizes, &rules, 1);
-    list(again.desk, &board, &sizes, &rules, 2);
+    list(&rt, again.desk, &board, &sizes, &rules, 0)?;
+    list(&rt, again.desk, &board, &sizes, &rules, 1)?;
+    list(&rt, again.desk, &board, &sizes, &rules, 2)
 }
 
-fn list(desk: Desk, board: &[u8], sizes: &[u8], rules: &[u16], i: usize) {
+fn list(
+    rt: &impl Print,
+    desk: Desk,
+    board: &[u8],
+    sizes: &[u8],
+    rules: &[u16],
+    i: usize,
+) -> io::Result<()> {
     let left = desk::options(desk, board, sizes, rules, 3, i);
-    io::print_decimal(STDOUT_FILENO, i as u64);
-    io::write_all(STDOUT_FILENO, b" ");
-    print_options(left.mask);
-    io::write_all(STDOUT_FILENO, b" ");
-    io::print_decimal(STDOUT_FILENO, left.count as u64);
-    io::write_all(STDOUT_FILENO, b"\n");
+    print!(rt; "{i} ")?;
+    print_options(rt, left.mask)?;
+    let count = left.count;
+    println!(rt; " {count}")
 }
 
 // The options left joined by commas, "-" if none. Each turn finds the first that is left and takes its bit away.
-fn print_options(mask: u16) {
+fn print_options(rt: &impl Print, mask: u16) -> io::Result<()> {
     if mask == 0 {
-        io::write_all(STDOUT_FILENO, b"-");
-        return;
+        return print!(rt; "-");
     }
     let mut rest = mask;
     let mut left = 16usize;
     while 0 < left {
         if rest == 0 {
-            return;
+            return Ok(());
         }
         if rest != mask {
-            io::write_all(STDOUT_FILENO, b",");
+            print!(rt; ",")?;
         }
-        io::print_decimal(STDOUT_FILENO, wide(u16::trailing_zeros(rest)));
+        print!(rt; "{}", wide(rest.trailing_zeros()))?;
         rest = rest & (rest - 1);
         left -= 1;
     }
+    Ok(())
 }
 
 fn wide(x: u32) -> u64 {

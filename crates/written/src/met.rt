@@ -6,7 +6,7 @@ use lines::least;
 use numbers::{size_at, wide};
 
 // A catalogue's fault, 0 for none; how many whole rules stand before it, all where there is none; the place after them.
-#[derive(Drop)]
+#[derive(Clone, Copy)]
 pub struct Met {
     pub fault: u8,
     pub rules: usize,
