@@ -8,19 +8,35 @@ use prog.Routine.{Routine}
 use types.Logic.{Logic}
 use contract.Monad.{Fun}
 use contract.Notation.{connectives}
+use denote.Bor.{Bor}
+use denote.MutBor.{MutBor}
+use Prim.Native.Nat.{ℕ}
 use mathlib.Core.Path.{◌≡◌, refl}
+use mathlib.Core.List.{List}
+use Rattle.runs.specs.declared.Desk.{Desk}
 use Rattle.builds.specs.Catalogue.{catalogue_of}
 use Rattle.runs.specs.declared.Asking.TheVariants.{Enter, Leave, Choose, Relax}
-use Rattle.runs.specs.Call.{asks, turns}
+use Rattle.runs.specs.Call.{Call, asks, turns}
 use Rattle.runs.specs.Answers.{ChangesTo, TurnsTo}
-use Rattle.runs.specs.Perform.{opening}
-use Rattle.reading.proofs.Contracts.{Always, numbers, outcome}
+use Rattle.runs.specs.Perform.{Outcome, performed, opening}
+use Rattle.reading.proofs.Contracts.{Always}
 use Rattle.desk.specs.contracts.calls.«open» as opens
 use Rattle.desk.specs.contracts.calls.enter as enter
 use Rattle.desk.specs.contracts.calls.leave as leave
 use Rattle.desk.specs.contracts.calls.choose as choose
 use Rattle.desk.specs.contracts.calls.relax as relax
 use Rattle.desk.specs.contracts.turning.turns as turning
+
+-- what every call but open is handed: desk, board, sizes, rules, then its own numbers
+abbrev pub Handed : Type 0 → Type 0
+Handed Numbers = Desk × (MutBor (List ℕ) × (Bor (List ℕ) × (Bor (List ℕ) × Numbers)))
+
+abbrev pub numbers : {Numbers : Type 0} → Handed Numbers → Numbers
+numbers handed = handed.1.1.1.1
+
+-- a call on what is handed, by the definitions
+abbrev pub outcome : {Numbers : Type 0} → Handed Numbers → Call → Outcome
+outcome handed call = performed handed.1.1.0.now handed.1.1.1.0.now handed.0 handed.1.0.now call
 
 module _ {M : Type 1} {𝓤 : Ura M} (𝓛 : Logic 𝓤) (mem : Memory → SProp 𝓤) (run : Routine → Fun 𝓤) where
   open connectives 𝓤 use {⌜◌⌝}

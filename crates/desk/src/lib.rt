@@ -9,6 +9,8 @@
 //     │      leave      │   └──────── choose, relax ──────┘ │
 //     └─────────────────┴───────────────────────────────────┘
 //                                leave
+#![tactic(auto)]
+
 mod calls;
 mod turning;
 
