@@ -10,7 +10,7 @@ ghost use Rattle.placed.specs.Tested.{rule_broken};
 use numbers::wide;
 
 // What the test of an option that was placed comes to.
-#[derive(Drop)]
+#[derive(Clone, Copy)]
 pub enum Tested {
     Passed,
     Broke(u8), // the lowest-numbered rule that was broken

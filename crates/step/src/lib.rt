@@ -1,4 +1,6 @@
 // One step of the written search, on a record lent for it.
+#![tactic(auto)]
+
 mod lent;
 mod written;
 

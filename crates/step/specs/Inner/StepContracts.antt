@@ -1,5 +1,5 @@
 -- The enums of the code as the definitions have them, and what its functions need and say; no promise cites this file.
-use Rattle.std.specs.Prelude.{ℕ, ◌≡◌, Bool, true, cond, List, length, get_or, set}
+use Rattle.std.specs.Prelude.{ℕ, ◌≡◌, true, List, length, get_or}
 use Rattle.builds.specs.Catalogue.{Catalogue, rules_of}
 use Rattle.builds.specs.Rule.{first_broken}
 use Rattle.builds.specs.Fault.{fault_of}

@@ -1,0 +1,26 @@
+-- The parts that are lent of the starts are where the rules begin that are tested at the depth, and their numbers.
+use Prim.Native.Nat.{◌+◌, ◌-◌, ◌*◌}
+use mathlib.Core.Path.{◌≡◌}
+use native.Mathlib.Omega.{arith}
+use Rattle.builds.specs.Catalogue.{catalogue_of, rules_of}
+use Rattle.builds.proofs.Faultless.{fault_whole}
+use Rattle.builds.proofs.Format.{fault_below}
+use Rattle.step.proofs.written.tested_at.Goals as goal
+
+pub test-requires : goal.test-requires
+test-requires c =
+    let catalogue = catalogue_of c.args.sizes.now c.args.rules.now in
+    let span : c.args.j * 64 + c.byte-count.result - c.args.j * 64 ≡ c.byte-count.result = omega arith in
+    let span-2 : 16 + c.args.j * 64 + c.byte-count.result - (16 + c.args.j * 64) ≡ c.byte-count.result = omega arith in
+    record {
+      rules_value = fault_whole catalogue c.requires.rules_value.0;
+      starts_value = (
+        rw (span, c.byte-count.ensures.0) (c.requires.rules_value.1.are_starts c.args.j c.requires.j_bound.0),
+        rw (span-2, c.byte-count.ensures.0) (c.requires.rules_value.1.are_numbers c.args.j c.requires.j_bound.0),
+      );
+      features_below = rw c.requires.j_bound.1 (fault_below catalogue c.requires.rules_value.0);
+    }
+
+pub returns : goal.returns
+unfolding rules_of
+returns c = c.test.ensures
