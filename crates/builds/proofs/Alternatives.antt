@@ -11,7 +11,7 @@ use lib.Dec.{eqb}
 use borrow.Author.Tests.{eqb-true, eqb-false}
 use Rattle.builds.specs.Rule.{option_at}
 use Rattle.builds.specs.Catalogue.{Catalogue}
-use Rattle.builds.specs.Build.{IsBuild, BuildWith}
+use Rattle.builds.specs.Build.{IsBuild}
 use Rattle.builds.specs.Alternative.{set_aside, Alternative}
 
 -- however many choices are listed: one that is not is none too

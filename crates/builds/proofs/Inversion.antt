@@ -8,7 +8,7 @@ use native.Mathlib.Omega.{arith}
 use lib.ListN.{length, drop}
 use borrow.Author.Tests.{ltb-false, le-ltb, not-false}
 use Rattle.builds.specs.Checks.{when, or_else}
-use Rattle.builds.specs.Catalogue.{arity, row_count, rows_begin, width, features_read}
+use Rattle.builds.specs.Catalogue.{arity, row_count, rows_begin, features_read}
 use Rattle.builds.specs.Fault.{rule_fault, features_fault, rows_fault}
 use Rattle.builds.proofs.OneTo.{one_to, to_one}
 use Rattle.builds.proofs.WholeRule.{WholeRule}

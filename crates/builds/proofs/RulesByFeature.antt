@@ -12,7 +12,7 @@ use lib.ListN.{length}
 use lib.Dec.{eqb}
 use borrow.Author.Tests.{eqb-true, eqb-false}
 use Rattle.builds.specs.Lists.{Every}
-use Rattle.builds.specs.Rule.{Rule, option_at, satisfies, satisfies_all, highest, breaks, one_on, first_broken, is_none, passes}
+use Rattle.builds.specs.Rule.{Rule, option_at, satisfies, satisfies_all, highest, one_on, first_broken, is_none, passes}
 use Rattle.builds.specs.Catalogue.{Catalogue, rules_of}
 use Rattle.builds.specs.Fault.{fault_of}
 use Rattle.builds.proofs.Every.{every_head, every_tail, every_weaken}

@@ -1,6 +1,6 @@
 -- The rules that `tested_from` finds are those tested at the feature: the first of them that is broken is the least-numbered
 -- one of the whole list. Each lies whole in the list and names features below a bound where all rules do.
-use Prim.Native.Nat.{ℕ, zero, suc, ◌+◌, ◌-◌, ◌≤◌, ◌<◌}
+use Prim.Native.Nat.{ℕ, zero, suc, ◌+◌, ◌≤◌, ◌<◌}
 use mathlib.Core.Path.{◌≡◌, refl, ap, ◌∙◌}
 use mathlib.Core.Bool.{Bool, true, false, cond}
 use mathlib.Core.List.{List, [], ◌∷◌}

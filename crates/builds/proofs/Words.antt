@@ -9,7 +9,7 @@ use lib.ListN.{length, take, drop}
 use lib.Dec.{eqb}
 use borrow.Author.Tests.{eqb-true, eq-eqb}
 use Rattle.builds.specs.Lists.{OneTo, count_from, sum, put}
-use Rattle.builds.specs.Catalogue.{Catalogue, catalogue_of}
+use Rattle.builds.specs.Catalogue.{catalogue_of}
 use Rattle.builds.specs.Format.{rule_written}
 use Rattle.builds.specs.Rule.{Rule, option_at, matches, some_row, satisfies}
 

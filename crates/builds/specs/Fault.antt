@@ -1,5 +1,5 @@
 -- The fault met first, reading the sizes and then the rule list from the front: 10 to 18, or 0 for none.
-use Rattle.std.specs.Prelude.{ℕ, zero, suc, ◌+◌, ◌-◌, ◌*◌, Bool, true, cond, not, ◌&&◌, List, [], ◌∷◌, ◌++◌, map, length, get_or, drop, ltb, leb}
+use Rattle.std.specs.Prelude.{ℕ, zero, suc, ◌-◌, ◌*◌, Bool, true, cond, not, ◌&&◌, List, [], ◌∷◌, ◌++◌, map, length, get_or, drop, ltb, leb}
 use Rattle.builds.specs.Lists.{member}
 use Rattle.builds.specs.Checks.{when, or_else, first}
 use Rattle.builds.specs.Catalogue.{Catalogue, arity, row_count, rows_begin, width, features_read, is_empty}

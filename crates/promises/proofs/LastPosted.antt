@@ -10,7 +10,6 @@ use lib.Dec.{eqb}
 use borrow.Author.Tests.{eqb-true, eqb-false}
 use Rattle.builds.specs.Catalogue.{Catalogue}
 use Rattle.builds.specs.Fault.{fault_of}
-use Rattle.search.specs.Clinic.{Clinic}
 use Rattle.runs.specs.declared.Asking.{Asking}
 use Rattle.runs.specs.declared.Asking.TheVariants.{Enter, Leave, Choose, Relax, Read}
 use Rattle.runs.specs.Room.{Room, clinic_at}
@@ -28,7 +27,7 @@ use Rattle.runs.proofs.WithClinic.{fresh_clinic}
 use Rattle.runs.proofs.AnyDesk.{reading_stays}
 use Rattle.promises.specs.Moment.{moment, Opened}
 use Rattle.promises.specs.Askings.{Blank}
-use Rattle.promises.specs.Jobs.{PostsJob, enter, choose, relax, Quiet, no_call, not_its_own, no_change, Stands, blank, at_its_job}
+use Rattle.promises.specs.Jobs.{enter, choose, relax, Quiet, no_call, not_its_own, no_change, Stands, blank, at_its_job}
 use Rattle.promises.proofs.SoundMoments.{not_refused, opened_faultless, sound_moment}
 use Rattle.promises.proofs.Askings.{closed_blank}
 use Rattle.promises.proofs.StepsMade.{turns_idle}

@@ -13,7 +13,6 @@ use Rattle.builds.specs.Catalogue.{Catalogue, size_of}
 use Rattle.builds.specs.Checks.{when, first as first_number}
 use Rattle.builds.specs.Lists.{member}
 use Rattle.builds.specs.Fault.{fault_of}
-use Rattle.builds.specs.Rule.{option_at}
 use Rattle.builds.specs.Build.{IsBuild, FirstWith, padded}
 use Rattle.builds.specs.Gic.{Gic}
 use Rattle.builds.specs.Alternative.{set_aside, Alternative, AlternativeDomain}

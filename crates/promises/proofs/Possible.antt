@@ -22,7 +22,6 @@ use Rattle.runs.specs.declared.Reading.TheVariants.{Options, Alternatives, Examp
 use Rattle.runs.specs.Room.{Room, seat_at}
 use Rattle.runs.specs.Call.{Call, asks, turns}
 use Rattle.runs.specs.RefusalTable.{asked_rows}
-use Rattle.runs.specs.Perform.{perform}
 use Rattle.runs.proofs.Sound.{Sound}
 use Rattle.runs.proofs.ChecksPassed.{checks_passed, turns_accepted}
 use Rattle.runs.proofs.Performed.{perform_number}

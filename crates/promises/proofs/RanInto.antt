@@ -9,7 +9,7 @@ use mathlib.Core.Option.{Option, none, some}
 use native.Mathlib.Nat.{eq-or-lt_of_le}
 use native.Mathlib.Numerals.{add-one}
 use native.Mathlib.Omega.{arith}
-use lib.ListN.{length, set}
+use lib.ListN.{set}
 use Rattle.builds.specs.Catalogue.{Catalogue, rules_of}
 use Rattle.builds.specs.Rule.{first_broken}
 use Rattle.builds.specs.Fault.{fault_of}

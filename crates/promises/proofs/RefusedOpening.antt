@@ -16,9 +16,9 @@ use Rattle.runs.specs.Room.{Room, fresh_desk}
 use Rattle.runs.specs.Call.{Call}
 use Rattle.runs.specs.RefusalTable.{refusal, open_refusal}
 use Rattle.runs.proofs.Tables.{table}
-use Rattle.runs.specs.Perform.{Outcome, perform, opening}
+use Rattle.runs.specs.Perform.{Outcome, perform}
 use Rattle.runs.specs.Run.{after_calls}
-use Rattle.runs.proofs.Performed.{perform_number, perform_refused, opening_number, opening_refused}
+use Rattle.runs.proofs.Performed.{perform_refused, opening_number, opening_refused}
 use Rattle.promises.specs.Moment.{moment, Opened, seat_in}
 
 -- rows below play no part where one of the first two gives a number

@@ -2,7 +2,6 @@
 -- seat that a turn serves is the first at work from next on: there is only one, for of two the nearer is not at work.
 use Prim.Native.Nat.{ℕ, ◌+◌, ◌%◌, ◌<◌}
 use mathlib.Core.Path.{◌≡◌, refl, sym, ap, ◌∙◌}
-use mathlib.Core.Logic.{◌⊎◌, ⊎_elim}
 use mathlib.Core.Bool.{Bool, true, false}
 use mathlib.Core.Option.{Option, none, some}
 use native.Mathlib.Nat.{mod-lt}
@@ -15,7 +14,7 @@ use Rattle.search.specs.Look.{is_at_work}
 use Rattle.search.proofs.StepRules.{step_rules}
 use Rattle.runs.specs.Room.{Room, clinic_at}
 use Rattle.runs.specs.Call.{turns}
-use Rattle.runs.specs.Turn.{served, turn, after_turns, turns_made}
+use Rattle.runs.specs.Turn.{served, after_turns, turns_made}
 use Rattle.runs.specs.RefusalTable.{refusal}
 use Rattle.runs.specs.Perform.{done, perform}
 use Rattle.runs.proofs.Sound.{Sound, turns_sound}

@@ -1,7 +1,7 @@
 -- What is known of a call that isn't refused: board, catalogue and desk passed their checks; the seat of an asking is one of
 -- the eight; and every row that the asking lists has a condition that fails.
 use Prim.Native.Nat.{ℕ, suc, ◌<◌}
-use mathlib.Core.Path.{◌≡◌, refl}
+use mathlib.Core.Path.{◌≡◌}
 use mathlib.Core.Bool.{Bool, true, false, not}
 use mathlib.Core.List.{List, [], ◌∷◌}
 use native.Mathlib.Omega.{arith}

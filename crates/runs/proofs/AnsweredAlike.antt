@@ -1,6 +1,6 @@
 -- In two sound rooms that have the same record and share at a seat, an asking of the seat is answered alike and leaves the
 -- same record and share there: it is refused alike, and what it answers and leaves it makes of that record and share alone.
-use Prim.Native.Nat.{ℕ, zero, suc, ◌<◌}
+use Prim.Native.Nat.{ℕ, zero, suc}
 use mathlib.Core.Path.{◌≡◌, refl, sym, ap, ◌∙◌}
 use native.Mathlib.Omega.{arith}
 use Rattle.builds.specs.Catalogue.{Catalogue}

@@ -1,7 +1,7 @@
 -- A part of the board lent to one seat is that seat's share, and when it is back with other bytes in it, the board is the old
 -- one with those bytes put over the share.
 use Prim.Native.Nat.{ℕ, ◌+◌, ◌-◌, ◌*◌, ◌<◌}
-use mathlib.Core.Path.{◌≡◌, refl, ◌∙◌}
+use mathlib.Core.Path.{◌≡◌}
 use mathlib.Core.List.{List}
 use native.Mathlib.Omega.{arith}
 use lib.ListN.{length}

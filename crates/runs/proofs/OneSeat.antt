@@ -2,12 +2,12 @@
 -- 4,096 bytes on and puts the record that it gets for them into the desk; the bytes before and after the share are as they
 -- were, so desk and board are those in which this one clinic is replaced by what the asking leaves of it.
 use Prim.Native.Nat.{ℕ}
-use mathlib.Core.Path.{◌≡◌, sym, ap, ◌∙◌}
+use mathlib.Core.Path.{◌≡◌, ap, ◌∙◌}
 use mathlib.Core.List.{List}
 use lib.ListN.{length, set}
 use Rattle.builds.specs.Catalogue.{Catalogue}
 use Rattle.search.specs.declared.Seat.{Seat}
-use Rattle.search.specs.Clinic.{Clinic, clinic_of}
+use Rattle.search.specs.Clinic.{clinic_of}
 use Rattle.runs.specs.declared.Desk.{Desk}
 use Rattle.runs.specs.declared.Asking.{Asking}
 use Rattle.runs.specs.Room.{Room, seat_at, clinic_at, with_clinic}

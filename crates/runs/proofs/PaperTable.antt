@@ -15,7 +15,7 @@ use Rattle.builds.specs.Fault.{fault_of}
 use Rattle.builds.specs.FaultMet.{FaultMet}
 use Rattle.builds.proofs.FaultMet.{fault_met, fault_numbers}
 use Rattle.runs.specs.declared.Asking.{Asking}
-use Rattle.runs.specs.declared.Asking.TheVariants.{Enter, Choose, Relax}
+use Rattle.runs.specs.declared.Asking.TheVariants.{Enter, Choose}
 use Rattle.runs.specs.Room.{Room, seat_at}
 use Rattle.runs.specs.DeskFits.{desk_fits}
 use Rattle.runs.specs.Call.{Call, asks, turns}

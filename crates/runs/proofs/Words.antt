@@ -7,18 +7,14 @@ use mathlib.Core.Bool.{true, false}
 use mathlib.Core.List.{List}
 use lib.ListN.{get_or, take, drop}
 use borrow.Author.Tests.{eqb-true, eq-eqb}
-use Rattle.builds.specs.Catalogue.{Catalogue, catalogue_of}
 use Rattle.search.specs.Clinic.{no_seat}
 use Rattle.runs.specs.declared.Desk.{Desk}
 use Rattle.runs.specs.declared.Asking.{Asking}
-use Rattle.runs.specs.declared.answers.Changed.{Changed}
-use Rattle.runs.specs.declared.answers.Left.{Left}
-use Rattle.runs.specs.declared.answers.Turned.{Turned}
 use Rattle.runs.specs.Room.{Room, seat_at, share_at, clinic_at}
-use Rattle.runs.specs.Call.{Call, asks, turns, is_of}
-use Rattle.runs.specs.Perform.{Outcome, perform, performed}
+use Rattle.runs.specs.Call.{asks, turns, is_of}
+use Rattle.runs.specs.Perform.{Outcome}
 use Rattle.runs.specs.Run.{turns_asked}
-use Rattle.runs.specs.Answers.{ChangesTo, ReadsAs, TurnsTo, example_begins, BytesAre, BeginsAt, NumberIs, Lent}
+use Rattle.runs.specs.Answers.{example_begins, Lent}
 
 -- seat c owns the 4,096 bytes from c × 4,096
 pub own : (board : List ℕ) (c : ℕ) → share_at board c ≡ take 4096 (drop (c * 4096) board)

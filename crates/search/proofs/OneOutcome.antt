@@ -21,7 +21,7 @@ use Rattle.search.specs.declared.State.TheVariants.{Ready, AtWork}
 use Rattle.search.specs.Bits.{has_bit}
 use Rattle.search.specs.Clinic.{Clinic}
 use Rattle.search.specs.Step.{step}
-use Rattle.search.specs.StepRules.{Least, Passed, NextPair, PairEnds, NothingWritten, BitSet, BuildWritten}
+use Rattle.search.specs.StepRules.{Passed, NextPair, PairEnds, NothingWritten, BitSet, BuildWritten}
 use Rattle.search.specs.StepRules.{KeepsRule, GoesOn, Tries, StepRules}
 use Rattle.search.proofs.NoBits.{same_bits}
 use Rattle.search.proofs.FitsInWords.{seat_fits_lem}

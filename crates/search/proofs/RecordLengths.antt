@@ -1,9 +1,6 @@
 -- What the type of a record tells of its value: it has sixteen choices, masks, trial entries and
 -- alternatives.
-use Prim.Native.Nat.{ℕ}
-use mathlib.Core.Path.{◌≡◌, sym, ◌∙◌}
-use mathlib.Core.List.{List, map}
-use lib.ListN.{length, length-map}
+use mathlib.Core.List.{List}
 use mir.Val.{Val}
 use denote.Laws.{Is}
 use Rattle.search.specs.declared.Seat.{Seat}

@@ -6,13 +6,12 @@ use mathlib.Core.Bool.{Bool, true, false, cond, true≢false}
 use mathlib.Core.List.{List}
 use mathlib.Core.Option.{Option}
 use Rattle.builds.specs.Catalogue.{Catalogue}
-use Rattle.search.specs.declared.Place.{Place}
 use Rattle.search.specs.declared.State.{State}
 use Rattle.search.specs.declared.State.TheVariants.{Closed, Ready, AtWork}
 use Rattle.search.specs.Look.{is_at_work}
 use Rattle.search.specs.Clinic.{Clinic, with_broken, with_example, with_alternative}
 use Rattle.search.specs.Candidates.{chosen_otherwise}
-use Rattle.search.specs.Step.{Tried, go_on, build, exhausted, pair_ended, after_tried, tried, search_at, test_at, broken_after}
+use Rattle.search.specs.Step.{Tried, go_on, build, exhausted, pair_ended, after_tried, search_at, test_at, broken_after}
 use Rattle.search.specs.Step.{step_at, step_from, step, steps}
 
 -- a step that leaves the last rule broken as it stood

@@ -24,7 +24,7 @@ use Rattle.promises.specs.Jobs.{PostsJob, Quiet, Job, EveryJob}
 use Rattle.promises.proofs.Jobs.{every_job as proved_every_job}
 use Rattle.promises.proofs.Askings.{every_asking as proved_every_asking}
 use Rattle.promises.proofs.Throughout.{every_moment as proved_every_moment}
-use Rattle.trials.proofs.Runs.{board, opens, opens_single, ready, chosen, is_ready_again, in_force_lem, feature, chosen_single}
+use Rattle.trials.proofs.Runs.{board, opens, opens_single, chosen, is_ready_again, in_force_lem, feature, chosen_single}
 use Rattle.trials.proofs.Waits.{sum_39}
 
 abbrev after_relax : Room

@@ -4,7 +4,7 @@ use mathlib.Core.Path.{◌≡◌, refl}
 use mathlib.Core.Bool.{true, false}
 use mathlib.Core.List.{List, [], ◌∷◌}
 use native.Mathlib.Omega.{arith}
-use Rattle.builds.specs.Catalogue.{Catalogue, catalogue_of}
+use Rattle.builds.specs.Catalogue.{catalogue_of}
 use Rattle.runs.specs.declared.answers.Changed.{Changed}
 use Rattle.runs.specs.declared.answers.Left.{Left}
 use Rattle.runs.specs.declared.answers.Ran.{Ran}

@@ -2,7 +2,7 @@
 -- earlier one holds. The rooms stand in Refused.antt.
 use Prim.Native.Nat.{ℕ, suc, ◌≤◌, ◌<◌}
 use mathlib.Core.Path.{◌≡◌, refl, sym, ap, ◌∙◌}
-use mathlib.Core.Bool.{Bool, true, false, false≢true}
+use mathlib.Core.Bool.{true, false, false≢true}
 use mathlib.Core.Logic.{⊎_elim}
 use mathlib.Core.List.{List}
 use native.Mathlib.Omega.{arith}
@@ -16,7 +16,7 @@ use Rattle.search.specs.Look.{is_closed, is_at_work}
 use Rattle.search.specs.Bits.{has_bit}
 use Rattle.search.specs.Trolley.{single}
 use Rattle.runs.specs.declared.Asking.{Asking}
-use Rattle.runs.specs.declared.Asking.TheVariants.{Enter, Leave, Choose, Relax, Read}
+use Rattle.runs.specs.declared.Asking.TheVariants.{Enter, Choose, Read}
 use Rattle.runs.specs.declared.Reading.TheVariants.{Example}
 use Rattle.runs.specs.Room.{Room, seat_at}
 use Rattle.runs.specs.Call.{asks, turns}

@@ -20,7 +20,6 @@ use Rattle.runs.specs.declared.Asking.TheVariants.{Enter, Choose, Relax, Read}
 use Rattle.runs.specs.declared.Reading.TheVariants.{Options, Alternatives, Example}
 use Rattle.runs.specs.Call.{Call, asks, turns}
 use Rattle.runs.specs.Perform.{perform}
-use Rattle.runs.specs.Run.{after_calls}
 use Rattle.runs.proofs.Computing.{computing}
 use Rattle.promises.specs.Moment.{moment, seat_in}
 use Rattle.promises.specs.OptionsLeft.{OptionsLeft, is_alternative}

@@ -5,7 +5,7 @@ use mathlib.Core.Bool.{true, false}
 use mathlib.Core.List.{List, [], ◌∷◌, flatten, Memᴰ}
 use native.Mathlib.Omega.{arith}
 use lib.ListN.{take, drop}
-use Rattle.builds.specs.Lists.{OneTo, count_from, sum, put}
+use Rattle.builds.specs.Lists.{count_from, sum, put}
 use Rattle.builds.specs.Rule.{Rule}
 use Rattle.builds.specs.Format.{rule_written}
 use Rattle.search.specs.declared.Place.{Place}
