@@ -1,4 +1,4 @@
--- What a reader of this crate must believe, lowest first; `inner` is for code and proofs alone.
+-- What a reader of this crate must believe, lowest first; `Inner` is for code and proofs alone.
 pub mod Lists
 pub mod Checks
 pub mod Rule

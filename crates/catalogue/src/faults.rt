@@ -8,7 +8,7 @@ use numbers::{size_at, wide};
 
 // 10 to 18, or 0 for none.
 pub fn fault(sizes: &[u8], rules: &[u16]) -> u8
-    ensures { result ≡ fault_of (record { sizes = sizes.entry.now; list = rules.now }) }
+    ensures { result ≡ fault_of (record { sizes = sizes.now; list = rules.now }) }
 {
     if sizes.len() == 0 {
         return 10;

@@ -19,8 +19,8 @@ pub enum Tested {
 // The test of what is placed at feature j, against each rule whose highest-numbered feature is j. Rules are numbered through
 // the whole list, so the number that is answered was noted beside where the rule begins.
 pub fn test(rules: &[u16], j: usize, starts: &[u16], numbers: &[u8], placed: &[u8]) -> Tested
-    requires rules_value { whole_rules 64 rules.now ≡ true }
-    requires starts_value { (starts.now ≡ starts_at rules.now j) × (numbers.now ≡ numbers_at rules.now j) }
+    requires rules_whole { whole_rules 64 rules.now ≡ true }
+    requires starts_known { (starts.now ≡ starts_at rules.now j) × (numbers.now ≡ numbers_at rules.now j) }
     requires features_below { FeaturesBelow (length placed.now) (rules_read 64 rules.now) }
     ensures { rule_broken result ≡ first_broken (rules_read 64 rules.now) j placed.now }
 {
@@ -39,8 +39,8 @@ pub fn test(rules: &[u16], j: usize, starts: &[u16], numbers: &[u8], placed: &[u
 // they are, sixteen counts; and after these their numbers, 64 a feature again. Both are lent, so that they are written where
 // they are read.
 pub fn starts_of(rules: &[u16], places: &mut [u16; 1024], counts: &mut [u8; 1040])
-    requires rules_value { (whole_rules 64 rules.now ≡ true) × (length rules.now ≤ 8192) }
-    requires places_len { (length places.old ≡ 1024) × (counts.old ≡ replicate 1040 0) }
+    requires rules_whole { (whole_rules 64 rules.now ≡ true) × (length rules.now ≤ 8192) }
+    requires room_for_starts { (length places.old ≡ 1024) × (counts.old ≡ replicate 1040 0) }
     ensures { AllStarts rules.now places.new counts.new }
 {
     let mut place = 0;
@@ -101,7 +101,7 @@ fn option_at(placed: &[u8], feature: usize) -> u16
 // compared from its last position back, for most rows differ there. What is placed at the last feature is looked up once for
 // all rows; the place is that of a row's last option.
 fn some_row(rows: &[u16], features: &[u16], placed: &[u8]) -> bool
-    requires in_bounds { (1 ≤ length features.now) × WholeRows (length features.now) rows.now }
+    requires rows_whole { (1 ≤ length features.now) × WholeRows (length features.now) rows.now }
     requires each_below { EachBelow (length placed.now) features.now }
     ensures { RowTest (length features.now) rows.now
         (map (option_at placed.now) features.now) result }
@@ -123,7 +123,7 @@ fn some_row(rows: &[u16], features: &[u16], placed: &[u8]) -> bool
 // Whether a row, or the front of one, matches what is placed at the features; compared from its last position back. It counts
 // the positions that are equal, for an index that falls compiles to a loop of more instructions.
 fn row_matches(row: &[u16], features: &[u16], placed: &[u8]) -> bool
-    requires row_len { length row.now ≡ length features.now }
+    requires as_long { length row.now ≡ length features.now }
     requires each_below { EachBelow (length placed.now) features.now }
     ensures { result ≡ matches row.now (map (option_at placed.now) features.now) }
 {

@@ -19,8 +19,8 @@ use search::Seat;
 
 // On a board and with a catalogue and a desk that passed the checks.
 pub fn make_turns(desk: Desk, board: &mut [u8], sizes: &[u8], rules: &[u16], w: u16) -> Turned
-    requires board_len { (length board.old ≡ 32768) × (fault_of (catalogue_of sizes.now rules.now) ≡ 0) }
-    requires desk_value { desk_fits (catalogue_of sizes.now rules.now) desk ≡ true }
+    requires sound { (length board.old ≡ 32768) × (fault_of (catalogue_of sizes.now rules.now) ≡ 0) }
+    requires fits { desk_fits (catalogue_of sizes.now rules.now) desk ≡ true }
     ensures { TurnsTo
         (done (catalogue_of sizes.now rules.now) (turns w) (room_of desk board.old))
         result board.new }

@@ -33,9 +33,9 @@ use Rattle.search.proofs.PairEnded.{ends_without, ends_found, writes_found}
 pub one_least : {P : ℕ → Type 0} {n m : ℕ} → Least P n → Least P m → n ≡ m
 one_least {n} {m} l k = omega (arith, l.1 m k.0, k.1 n l.0)
 
-not-true : (t : Bool) → (t ≡ true → ⊥) → t ≡ false
-not-true true h = absurd (h refl)
-not-true false h = refl
+not_true : (t : Bool) → (t ≡ true → ⊥) → t ≡ false
+not_true true h = absurd (h refl)
+not_true false h = refl
 
 -- what a pair's end writes has nothing to do with the rule that is kept
 module _ {before after : Clinic} (broken : ℕ) where
@@ -100,7 +100,7 @@ module _
         → tried_at catalogue clinic p at_work ≡ given_up sizes choices i a j (get_or placed j 255) (kept_before j placed)
     gives_up broken =
         let passing = passed_iff j placed catalogue fault in
-        let fails = not-true (passes (rules_of catalogue) j placed) (λ e. broken (passing.0 e)) in
+        let fails = not_true (passes (rules_of catalogue) j placed) (λ e. broken (passing.0 e)) in
         let there = tried_there catalogue fault clinic.seat seat_is p at_work fits.all_entries in
         let nothing = nothing_from_depth catalogue fault clinic.seat seat_is p at_work fits.all_entries in
         let kept = kept_under clinic.seat.trial fits.all_entries j p.next (omega (arith, deep)) nothing in

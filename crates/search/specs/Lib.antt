@@ -1,4 +1,4 @@
--- What a reader of this crate must believe, lowest first; `inner` is for code and proofs alone. `Trolley` has the
+-- What a reader of this crate must believe, lowest first; `Inner` is for code and proofs alone. `Trolley` has the
 -- catalogues that the paper works by hand.
 pub mod Bits
 pub mod Look

@@ -12,7 +12,7 @@ use search::{Seat, State};
 
 // What an accepted asking makes of a clinic: it posts a job, it leaves, or it reads and changes nothing.
 pub fn clinic_after(asking: Asking, seat: Seat, share: &mut [u8], sizes: &[u8]) -> Seat
-    requires share_len { (length share.old ≡ 4096) × (1 ≤ get_or sizes.now 0 0) }
+    requires lent_whole { (length share.old ≡ 4096) × (1 ≤ get_or sizes.now 0 0) }
     requires placeable { Placeable asking × HaveBits seat.choices }
     ensures { clinic_of result share.new
         ≡ clinic_after sizes.now asking (clinic_of seat share.old) }
@@ -28,8 +28,8 @@ pub fn clinic_after(asking: Asking, seat: Seat, share: &mut [u8], sizes: &[u8]) 
 
 // A job under the choices with one set, or dropped.
 fn post_with(seat: Seat, share: &mut [u8], sizes: &[u8], feature: usize, option: usize) -> Seat
-    requires share_len { (length share.old ≡ 4096) × (1 ≤ get_or sizes.now 0 0) }
-    requires feature_bound { (feature < 16) × (option < 256) × HasBit option × HaveBits seat.choices }
+    requires lent_whole { (length share.old ≡ 4096) × (1 ≤ get_or sizes.now 0 0) }
+    requires placeable { (feature < 16) × (option < 256) × HasBit option × HaveBits seat.choices }
     ensures { clinic_of result share.new
         ≡ posted sizes.now (set seat.choices feature option) }
 {
@@ -62,8 +62,8 @@ pub fn closed() -> Seat
 
 // Masks emptied, but for the options in force among the alternatives; share filled with 255; no rule broken; pair (0, 0).
 fn post(choices: [u8; 16], share: &mut [u8], sizes: &[u8]) -> Seat
-    requires share_len { (length share.old ≡ 4096) × (1 ≤ get_or sizes.now 0 0) }
-    requires choices_len { (length choices ≡ 16) × HaveBits choices }
+    requires lent_whole { (length share.old ≡ 4096) × (1 ≤ get_or sizes.now 0 0) }
+    requires sixteen_choices { (length choices ≡ 16) × HaveBits choices }
     ensures { clinic_of result share.new ≡ posted sizes.now choices }
 {
     empty(share);

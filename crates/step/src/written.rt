@@ -71,9 +71,9 @@ fn step_at(
     counts: &[u8],
     edge: &[u8],
 ) -> Seat
-    requires step_needs { StepNeeds (catalogue_of sizes.now rules.now) seat
+    requires needs { StepNeeds (catalogue_of sizes.now rules.now) seat
         share.old places.now counts.now edge.now }
-    requires state_value { seat.state ≡ AtWork place }
+    requires at_work { seat.state ≡ AtWork place }
     ensures { clinic_of result share.new
         ≡ step_at (catalogue_of sizes.now rules.now) place (clinic_of seat share.old) }
 {
@@ -108,9 +108,9 @@ fn tested_at(
     places: &[u16],
     counts: &[u8],
 ) -> Tested
-    requires rules_value { (fault_of (catalogue_of sizes.now rules.now) ≡ 0)
+    requires starts_known { (fault_of (catalogue_of sizes.now rules.now) ≡ 0)
         × AllStarts rules.now places.now counts.now }
-    requires j_bound { (j < 16) × (length placed.now ≡ 16) }
+    requires sixteen_placed { (j < 16) × (length placed.now ≡ 16) }
     ensures { rule_broken result
         ≡ first_broken (rules_of (catalogue_of sizes.now rules.now)) j placed.now }
 {
@@ -151,9 +151,9 @@ fn after_step(
     sizes: &[u8],
     rules: &[u16],
 ) -> After
-    requires try_needs { TryNeeds (catalogue_of sizes.now rules.now) place tested choices.now placed.now }
-    requires share_len { length share.old ≡ 4096 }
-    ensures depth_bound { result.depth ≤ place.depth + 1 }
+    requires needs { TryNeeds (catalogue_of sizes.now rules.now) place tested choices.now placed.now }
+    requires whole_share { length share.old ≡ 4096 }
+    ensures depth_in_reach { result.depth ≤ place.depth + 1 }
     ensures comes_to { ComesTo (catalogue_of sizes.now rules.now) place
         choices.now placed.now share.old result share.new }
 {
@@ -211,8 +211,8 @@ fn try_next(
     rules: &[u16],
 ) -> Way
     requires { TryNeeds (catalogue_of sizes.now rules.now) place tested choices.now placed.now }
-    ensures result_bound { depth_in result ≤ place.depth + 1 }
-    ensures placed_value { tried_of result placed.now
+    ensures depth_in_reach { depth_in result ≤ place.depth + 1 }
+    ensures tries { tried_of result placed.now
         ≡ tried (catalogue_of sizes.now rules.now) choices.now place.feature
         place.option place.depth place.next (kept_before place.depth placed.now) }
 {
@@ -238,10 +238,10 @@ fn try_next(
 
 // Rule 5: the next greater candidate, at this depth or the nearest earlier one that has any.
 fn given_up(sizes: &[u8], choices: &[u8], i: usize, option: u8, depth: u8, placed: &[u8]) -> Way
-    requires choices_len { (length choices.now ≡ 16) × (length sizes.now ≤ 16) × (depth < length sizes.now) }
+    requires within { (length choices.now ≡ 16) × (length sizes.now ≤ 16) × (depth < length sizes.now) }
     requires placed_at { PlacedAt depth placed.now }
-    ensures result_bound { depth_in result ≤ depth }
-    ensures placed_value { tried_of result placed.now
+    ensures depth_in_reach { depth_in result ≤ depth }
+    ensures gives_up { tried_of result placed.now
         ≡ given_up sizes.now choices.now i option depth (get_or placed.now depth 255)
         (kept_before depth placed.now) }
 {
@@ -270,8 +270,8 @@ fn pair_ended(
     left: bool,
     alternative: bool,
 ) -> After
-    requires sizes_len_bound { (length sizes.now ≤ 16) × (feature < length sizes.now) × (option < 16) }
-    requires choices_len { (length choices.now ≡ 16) × (1 ≤ get_or sizes.now 0 0) }
+    requires pair_within { (length sizes.now ≤ 16) × (feature < length sizes.now) × (option < 16) }
+    requires sixteen_choices { (length choices.now ≡ 16) × (1 ≤ get_or sizes.now 0 0) }
     ensures { result ≡ record {
       state = after_pair sizes.now choices.now feature option;
       depth = 0;
@@ -289,8 +289,8 @@ fn pair_ended(
 }
 
 fn after_pair(sizes: &[u8], choices: &[u8], feature: u8, option: u8) -> State
-    requires sizes_len_bound { (length sizes.now ≤ 16) × (feature < length sizes.now) × (option < 16) }
-    requires choices_len { (length choices.now ≡ 16) × (1 ≤ get_or sizes.now 0 0) }
+    requires pair_within { (length sizes.now ≤ 16) × (feature < length sizes.now) × (option < 16) }
+    requires sixteen_choices { (length choices.now ≡ 16) × (1 ≤ get_or sizes.now 0 0) }
     ensures { result ≡ after_pair sizes.now choices.now feature option }
 {
     let i = feature as usize;

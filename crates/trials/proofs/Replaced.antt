@@ -93,13 +93,13 @@ chosen_2 : get_or (seat_in (moment trolley board twice) 0).choices 2 255 ≡ 255
 chosen_2 e = let none : ◌≡◌ {A = ℕ} 0 255 = rw both_in_force at e in omega (arith, none)
 
 module _ (demand : OptionsLeft) where
-  2-could : is_alternative trolley (moment trolley board twice) 0 1 2 ≡ true
-  2-could =
+  could_2 : is_alternative trolley (moment trolley board twice) 0 1 2 ≡ true
+  could_2 =
       ((demand trolley board twice 0 (lit< tt) ready_twice).alternatives_exactly 1 2 (feature 1 (lit< tt)) chosen_1).1
       (1 ∷ 2 ∷ 0 ∷ [], rw both_in_force has_120)
 
-  1-could-not : is_alternative trolley (moment trolley board twice) 0 1 1 ≡ true → ⊥
-  1-could-not so =
+  could_not_1 : is_alternative trolley (moment trolley board twice) 0 1 1 ≡ true → ⊥
+  could_not_1 so =
       let seen = demand trolley board twice 0 (lit< tt) ready_twice in
       let some = rw both_in_force at ((seen.alternatives_exactly 1 1 (feature 1 (lit< tt)) chosen_1).0 so) in
       none_with_1 some.0 some.1
@@ -114,7 +114,7 @@ module _ (demand : OptionsLeft) where
   in_domain : (build : List ℕ) × BuildWith trolley (set_aside (seat_in (moment trolley board twice) 0).choices 1) 1 2 build
   in_domain =
       let domain = (demand trolley board twice 0 (lit< tt) ready_twice).alternative_domain 1 (feature 1 (lit< tt)) chosen_1 in
-      (domain.is_closure.exactly 1 2 domain.is_feature).0 (sym (domain.is_domain 2) ∙ 2-could)
+      (domain.is_closure.exactly 1 2 domain.is_feature).0 (sym (domain.is_domain 2) ∙ could_2)
 
 -- relaxed while seat 5 enters and works: the other choice stays, and 0 and 2 are left
 unfoldable pub meanwhile : List Call
@@ -179,10 +179,10 @@ pub option_0_among : is_alternative trolley (moment trolley board chosen) 0 2 0 
 option_0_among = among proved_options_left
 
 pub option_2_of_1_could : is_alternative trolley (moment trolley board twice) 0 1 2 ≡ true
-option_2_of_1_could = 2-could proved_options_left
+option_2_of_1_could = could_2 proved_options_left
 
 pub option_1_of_1_could_not : is_alternative trolley (moment trolley board twice) 0 1 1 ≡ true → ⊥
-option_1_of_1_could_not = 1-could-not proved_options_left
+option_1_of_1_could_not = could_not_1 proved_options_left
 
 pub option_1_of_2_no_longer : is_alternative trolley (moment trolley board twice) 0 2 1 ≡ true → ⊥
 option_1_of_2_no_longer = no_longer proved_options_left

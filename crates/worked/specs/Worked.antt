@@ -48,9 +48,9 @@ state_of clinic = state_number clinic.seat.state ∷ []
 
 -- how many steps each pair of a job takes, their sum K, and the state after K − 1 and after K steps
 unfoldable pub lengths : Catalogue → List ℕ → ℕ → ℕ → List (List ℕ)
-lengths catalogue choices oneLess k =
+lengths catalogue choices one_less k =
     pair_counts catalogue choices ∷ (job_steps catalogue choices ∷ [])
-    ∷ state_of (job_after catalogue choices oneLess) ∷ state_of (job_after catalogue choices k) ∷ []
+    ∷ state_of (job_after catalogue choices one_less) ∷ state_of (job_after catalogue choices k) ∷ []
 
 -- the rows of a rule that have an option at a place: its support there
 unfoldable pub support : ℕ → ℕ → List (List ℕ) → ℕ

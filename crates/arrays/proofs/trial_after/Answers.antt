@@ -15,11 +15,11 @@ loop-f-preserved c =
     let within : c.args.kept ≤ 16 = omega arith in
     let read = get_d_within c.args.trial c.loop-f.f 0 255 (omega (arith, sixteen)) in
     let long = kept_length (set c.args.trial c.args.depth c.args.next) (rw length-set sixteen) c.args.kept within in
-    let made = entry_made c.args.trial sixteen c.requires.depth_value.1 c.args.depth c.args.next c.args.kept (omega arith) c.requires.depth_bound.0 c.requires.depth_value.0 c.requires.depth_bound.1 c.loop-f.f (omega arith) in (
+    let made = entry_made c.args.trial sixteen c.requires.entries.1 c.args.depth c.args.next c.args.kept (omega arith) c.requires.depth_within.0 c.requires.entries.0 c.requires.depth_within.1 c.loop-f.f (omega arith) in (
       omega arith,
       length-set c.loop-f.after c.loop-f.f _ ∙ c.loop-f.invariant.1,
       one_filled (kept_before c.args.kept (set c.args.trial c.args.depth c.args.next)) c.loop-f.after 255 c.loop-f.f _ (omega (arith, c.loop-f.invariant.1)) (omega (arith, long))
-          (rw (read, c.requires.depth_bound.2) made) c.loop-f.invariant.2,
+          (rw (read, c.requires.depth_within.2) made) c.loop-f.invariant.2,
     )
 
 pub returns : goal.returns

@@ -53,7 +53,7 @@ clinic_after-seat-requires c =
     let not_refused : refusal (record { sizes = c.args.sizes.now; list = c.args.rules.now }) (asks c.args.c c.args.asking) (record { desk = c.args.desk; board = c.args.board.now }) ≡ 0 = sym (c.number-number.ensures _ refl) ∙ c.if-number-ne0.false in
     let passed : AcceptedAsking (record { sizes = c.args.sizes.now; list = c.args.rules.now }) c.args.c c.args.asking (record { desk = c.args.desk; board = c.args.board.now }) = accepted _ _ _ _ not_refused in
     let call = passed in record {
-      share_len = (own_share_length _ _ _ _ not_refused, first_has_option _ call.checks.faultless);
+      lent_whole = (own_share_length _ _ _ _ not_refused, first_has_option _ call.checks.faultless);
       placeable = (placeable _ call, have_bits _ call);
     }
 

@@ -16,8 +16,8 @@ make_turns-requires c =
     let no_refusal : refusal (record { sizes = c.args.sizes.now; list = c.args.rules.now }) (turns c.args.w) (record { desk = c.args.desk; board = c.args.board.now }) ≡ 0 = sym (c.turns_number-number.ensures c.args.board.now refl c.args.w) ∙ c.if-number-ne0.false in
     let call = (checked (record { sizes = c.args.sizes.now; list = c.args.rules.now }) (turns c.args.w) (record { desk = c.args.desk; board = c.args.board.now }) no_refusal).0 in
     record {
-      board_len = (call.board_length, call.faultless);
-      desk_value = call.desk_fits_lem;
+      sound = (call.board_length, call.faultless);
+      fits = call.desk_fits_lem;
     }
 
 pub returns : goal.returns

@@ -26,7 +26,7 @@ row_matches-requires c =
     let row = row_length c.args.rows.now (c.loop-place.place - n) (c.loop-place.place - (c.loop-place.place - n)) (omega arith) in
     let front = row_length c.args.features.now 0 (n - 0) (omega arith) in
     record {
-      row_len = row ∙ same ∙ sym front;
+      as_long = row ∙ same ∙ sym front;
       each_below = front_below (n - 0) c.requires.each_below;
     }
 

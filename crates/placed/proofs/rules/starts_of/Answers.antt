@@ -12,7 +12,7 @@ use Rattle.placed.proofs.rules.starts_of.Goals as goal
 use Rattle.placed.proofs.rules.starts_of.Goals.{then-feature-lt16, else-feature-lt16}
 
 pub loop-place-init : goal.loop-place-init
-loop-place-init c = none_noted _ _ _ c.requires.rules_value.0 c.requires.places_len.0 c.requires.places_len.1
+loop-place-init c = none_noted _ _ _ c.requires.rules_whole.0 c.requires.room_for_starts.0 c.requires.room_for_starts.1
 
 pub bounds-rest-1 : goal.bounds-rest-1
 bounds-rest-1 c =

@@ -30,11 +30,11 @@ module _ (part : ℕ × ℕ → ℕ) (tested : List (ℕ × ℕ)) {noted : List 
 
 pub slice_bounds-satisfied-count : goal.slice_bounds-satisfied-count
 slice_bounds-satisfied-count c =
-    let starts_many : length c.args.starts.now ≡ length (tested_at c.args.rules.now c.args.j) = noted_many begins (tested_at c.args.rules.now c.args.j) c.requires.starts_value.0 in
+    let starts_many : length c.args.starts.now ≡ length (tested_at c.args.rules.now c.args.j) = noted_many begins (tested_at c.args.rules.now c.args.j) c.requires.starts_known.0 in
     let one_here : c.loop-i.i < length (tested_at c.args.rules.now c.args.j) = omega (arith, starts_many) in
-    let place_read : c.wide-place.result ≡ (get_or (tested_at c.args.rules.now c.args.j) c.loop-i.i (0, 0)).0 = c.wide-place.ensures.0 ∙ noted_nth begins (tested_at c.args.rules.now c.args.j) c.requires.starts_value.0 c.loop-i.i in
+    let place_read : c.wide-place.result ≡ (get_or (tested_at c.args.rules.now c.args.j) c.loop-i.i (0, 0)).0 = c.wide-place.ensures.0 ∙ noted_nth begins (tested_at c.args.rules.now c.args.j) c.requires.starts_known.0 c.loop-i.i in
     let whole_there : whole_rule (drop c.wide-place.result c.args.rules.now) ≡ true = rw place_read
-    (start_whole c.args.rules.now c.args.j c.loop-i.i c.requires.rules_value one_here) in
+    (start_whole c.args.rules.now c.args.j c.loop-i.i c.requires.rules_whole one_here) in
     let place_within : c.wide-place.result ≤ length c.args.rules.now = let rules = c.args.rules.now in
     let w = whole (drop c.wide-place.result rules) whole_there in
     omega (arith, length-drop c.wide-place.result rules) in
@@ -42,11 +42,11 @@ slice_bounds-satisfied-count c =
 
 pub slice_bounds-satisfied-start : goal.slice_bounds-satisfied-start
 slice_bounds-satisfied-start c =
-    let starts_many : length c.args.starts.now ≡ length (tested_at c.args.rules.now c.args.j) = noted_many begins (tested_at c.args.rules.now c.args.j) c.requires.starts_value.0 in
+    let starts_many : length c.args.starts.now ≡ length (tested_at c.args.rules.now c.args.j) = noted_many begins (tested_at c.args.rules.now c.args.j) c.requires.starts_known.0 in
     let one_here : c.loop-i.i < length (tested_at c.args.rules.now c.args.j) = omega (arith, starts_many) in
-    let place_read : c.wide-place.result ≡ (get_or (tested_at c.args.rules.now c.args.j) c.loop-i.i (0, 0)).0 = c.wide-place.ensures.0 ∙ noted_nth begins (tested_at c.args.rules.now c.args.j) c.requires.starts_value.0 c.loop-i.i in
+    let place_read : c.wide-place.result ≡ (get_or (tested_at c.args.rules.now c.args.j) c.loop-i.i (0, 0)).0 = c.wide-place.ensures.0 ∙ noted_nth begins (tested_at c.args.rules.now c.args.j) c.requires.starts_known.0 c.loop-i.i in
     let whole_there : whole_rule (drop c.wide-place.result c.args.rules.now) ≡ true = rw place_read
-    (start_whole c.args.rules.now c.args.j c.loop-i.i c.requires.rules_value one_here) in
+    (start_whole c.args.rules.now c.args.j c.loop-i.i c.requires.rules_whole one_here) in
     let place_within : c.wide-place.result ≤ length c.args.rules.now = let rules = c.args.rules.now in
     let w = whole (drop c.wide-place.result rules) whole_there in
     omega (arith, length-drop c.wide-place.result rules) in
@@ -54,11 +54,11 @@ slice_bounds-satisfied-start c =
 
 pub satisfied-requires : goal.satisfied-requires
 satisfied-requires c =
-    let starts_many : length c.args.starts.now ≡ length (tested_at c.args.rules.now c.args.j) = noted_many begins (tested_at c.args.rules.now c.args.j) c.requires.starts_value.0 in
+    let starts_many : length c.args.starts.now ≡ length (tested_at c.args.rules.now c.args.j) = noted_many begins (tested_at c.args.rules.now c.args.j) c.requires.starts_known.0 in
     let one_here : c.loop-i.i < length (tested_at c.args.rules.now c.args.j) = omega (arith, starts_many) in
-    let place_read : c.wide-place.result ≡ (get_or (tested_at c.args.rules.now c.args.j) c.loop-i.i (0, 0)).0 = c.wide-place.ensures.0 ∙ noted_nth begins (tested_at c.args.rules.now c.args.j) c.requires.starts_value.0 c.loop-i.i in
+    let place_read : c.wide-place.result ≡ (get_or (tested_at c.args.rules.now c.args.j) c.loop-i.i (0, 0)).0 = c.wide-place.ensures.0 ∙ noted_nth begins (tested_at c.args.rules.now c.args.j) c.requires.starts_known.0 c.loop-i.i in
     let whole_there : whole_rule (drop c.wide-place.result c.args.rules.now) ≡ true = rw place_read
-    (start_whole c.args.rules.now c.args.j c.loop-i.i c.requires.rules_value one_here) in
+    (start_whole c.args.rules.now c.args.j c.loop-i.i c.requires.rules_whole one_here) in
     let below_there : EachBelow (length c.args.placed.now) (features_read (drop c.wide-place.result c.args.rules.now)) = rw place_read
     (start_below (length c.args.placed.now) c.args.rules.now c.args.j c.loop-i.i
     c.requires.features_below
@@ -68,27 +68,27 @@ satisfied-requires c =
 pub returns-then-not-satisfied : goal.returns-then-not-satisfied
 returns-then-not-satisfied c =
     let left_is_all : (first_of c.args.rules.now (drop c.loop-i.i (tested_at c.args.rules.now c.args.j)) c.args.placed.now) ≡ (first_broken (rules_read 64 c.args.rules.now) c.args.j c.args.placed.now) = c.loop-i.invariant.1 ∙ first_tested c.args.rules.now c.args.placed.now c.args.j in
-    let starts_many : length c.args.starts.now ≡ length (tested_at c.args.rules.now c.args.j) = noted_many begins (tested_at c.args.rules.now c.args.j) c.requires.starts_value.0 in
+    let starts_many : length c.args.starts.now ≡ length (tested_at c.args.rules.now c.args.j) = noted_many begins (tested_at c.args.rules.now c.args.j) c.requires.starts_known.0 in
     let one_here : c.loop-i.i < length (tested_at c.args.rules.now c.args.j) = omega (arith, starts_many) in
-    let place_read : c.wide-place.result ≡ (get_or (tested_at c.args.rules.now c.args.j) c.loop-i.i (0, 0)).0 = c.wide-place.ensures.0 ∙ noted_nth begins (tested_at c.args.rules.now c.args.j) c.requires.starts_value.0 c.loop-i.i in
+    let place_read : c.wide-place.result ≡ (get_or (tested_at c.args.rules.now c.args.j) c.loop-i.i (0, 0)).0 = c.wide-place.ensures.0 ∙ noted_nth begins (tested_at c.args.rules.now c.args.j) c.requires.starts_known.0 c.loop-i.i in
     let rule_tested : (first_of c.args.rules.now (drop c.loop-i.i (tested_at c.args.rules.now c.args.j)) c.args.placed.now) ≡ cond c.satisfied.result (first_of c.args.rules.now (drop (c.loop-i.i + 1) (tested_at c.args.rules.now c.args.j)) c.args.placed.now) (some (get_or (tested_at c.args.rules.now c.args.j) c.loop-i.i (0, 0)).1) = let answer = rw (left_lent, place_read) at c.satisfied.ensures in
     rw answer (first_step c.args.rules.now (tested_at c.args.rules.now c.args.j) c.args.placed.now c.loop-i.i one_here) in
     let broken : some (get_or (tested_at c.args.rules.now c.args.j) c.loop-i.i (0, 0)).1 ≡ (first_broken (rules_read 64 c.args.rules.now) c.args.j c.args.placed.now) =
     sym (rw c.if-not-satisfied.true at rule_tested) ∙ left_is_all in
-    ap some (noted_nth numbered (tested_at c.args.rules.now c.args.j) c.requires.starts_value.1 c.loop-i.i) ∙ broken
+    ap some (noted_nth numbered (tested_at c.args.rules.now c.args.j) c.requires.starts_known.1 c.loop-i.i) ∙ broken
 
 pub loop-i-preserved : goal.loop-i-preserved
 loop-i-preserved c =
-    let starts_many : length c.args.starts.now ≡ length (tested_at c.args.rules.now c.args.j) = noted_many begins (tested_at c.args.rules.now c.args.j) c.requires.starts_value.0 in
+    let starts_many : length c.args.starts.now ≡ length (tested_at c.args.rules.now c.args.j) = noted_many begins (tested_at c.args.rules.now c.args.j) c.requires.starts_known.0 in
     let one_here : c.loop-i.i < length (tested_at c.args.rules.now c.args.j) = omega (arith, starts_many) in
-    let place_read : c.wide-place.result ≡ (get_or (tested_at c.args.rules.now c.args.j) c.loop-i.i (0, 0)).0 = c.wide-place.ensures.0 ∙ noted_nth begins (tested_at c.args.rules.now c.args.j) c.requires.starts_value.0 c.loop-i.i in
+    let place_read : c.wide-place.result ≡ (get_or (tested_at c.args.rules.now c.args.j) c.loop-i.i (0, 0)).0 = c.wide-place.ensures.0 ∙ noted_nth begins (tested_at c.args.rules.now c.args.j) c.requires.starts_known.0 c.loop-i.i in
     let rule_tested : (first_of c.args.rules.now (drop c.loop-i.i (tested_at c.args.rules.now c.args.j)) c.args.placed.now) ≡ cond c.satisfied.result (first_of c.args.rules.now (drop (c.loop-i.i + 1) (tested_at c.args.rules.now c.args.j)) c.args.placed.now) (some (get_or (tested_at c.args.rules.now c.args.j) c.loop-i.i (0, 0)).1) = let answer = rw (left_lent, place_read) at c.satisfied.ensures in
     rw answer (first_step c.args.rules.now (tested_at c.args.rules.now c.args.j) c.args.placed.now c.loop-i.i one_here) in
     (omega arith, sym (rw c.if-not-satisfied.false at rule_tested) ∙ c.loop-i.invariant.1)
 
 pub returns : goal.returns
 returns c =
-    let starts_many : length c.args.starts.now ≡ length (tested_at c.args.rules.now c.args.j) = noted_many begins (tested_at c.args.rules.now c.args.j) c.requires.starts_value.0 in
+    let starts_many : length c.args.starts.now ≡ length (tested_at c.args.rules.now c.args.j) = noted_many begins (tested_at c.args.rules.now c.args.j) c.requires.starts_known.0 in
     let left_is_all : (first_of c.args.rules.now (drop c.loop-i.i (tested_at c.args.rules.now c.args.j)) c.args.placed.now) ≡ (first_broken (rules_read 64 c.args.rules.now) c.args.j c.args.placed.now) = c.loop-i.invariant.1 ∙ first_tested c.args.rules.now c.args.placed.now c.args.j in
     let none_left : length (tested_at c.args.rules.now c.args.j) ≤ c.loop-i.i = omega (arith, starts_many) in
     sym (first_end c.args.rules.now (tested_at c.args.rules.now c.args.j) c.args.placed.now c.loop-i.i none_left) ∙ left_is_all

@@ -9,5 +9,5 @@ returns c =
       c.in_force.ensures,
       c.started-state.ensures,
       c.empty.ensures,
-      c.requires.share_len.0,
+      c.requires.lent_whole.0,
     )

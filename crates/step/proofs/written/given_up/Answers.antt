@@ -16,8 +16,8 @@ returns-in-Candidate c =
     let read_there : (j : ℕ) → j < 16 → get_or c.args.placed.now j 0 ≡ get_or c.args.placed.now j 255 = λ j l. get_d_within c.args.placed.now j 0 255 (omega (arith, c.requires.placed_at.sixteen)) in
     let found = sym c.next_candidate.ensures ∙ ap next_of c.in-Candidate.is in
     let placed = get_or c.args.placed.now c.loop-next.j 255 in record {
-      result_bound = c.loop-next.invariant.0;
-      placed_value = sym (goes_on c.args.sizes.now c.args.choices.now c.args.i c.args.option c.loop-next.j placed (kept_before c.loop-next.j c.args.placed.now) _
+      depth_in_reach = c.loop-next.invariant.0;
+      gives_up = sym (goes_on c.args.sizes.now c.args.choices.now c.args.i c.args.option c.loop-next.j placed (kept_before c.loop-next.j c.args.placed.now) _
           (rw (read_there c.loop-next.j (omega arith)) at found)) ∙ c.loop-next.invariant.1;
     }
 
@@ -26,8 +26,8 @@ returns-then-j-eq0 c =
     let read_there : (j : ℕ) → j < 16 → get_or c.args.placed.now j 0 ≡ get_or c.args.placed.now j 255 = λ j l. get_d_within c.args.placed.now j 0 255 (omega (arith, c.requires.placed_at.sixteen)) in
     let none_left : next_candidate c.args.sizes.now c.args.choices.now c.args.i c.args.option c.loop-next.j (get_or c.args.placed.now c.loop-next.j 255) ≡ none = rw (read_there c.loop-next.j (omega arith)) at (sym c.next_candidate.ensures ∙ ap next_of c.in-Nothing.is) in
     record {
-      result_bound = omega arith;
-      placed_value = sym (ends c.args.sizes.now c.args.choices.now c.args.i c.args.option c.loop-next.j _ (kept_before c.loop-next.j c.args.placed.now) none_left c.if-j-eq0.true)
+      depth_in_reach = omega arith;
+      gives_up = sym (ends c.args.sizes.now c.args.choices.now c.args.i c.args.option c.loop-next.j _ (kept_before c.loop-next.j c.args.placed.now) none_left c.if-j-eq0.true)
           ∙ c.loop-next.invariant.1;
     }
 

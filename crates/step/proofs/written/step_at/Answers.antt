@@ -26,75 +26,75 @@ kept_so catalogue place tested clinic after broken named came kept = rw (kept, n
 
 pub bounds-placed-j : goal.bounds-placed-j
 bounds-placed-j c =
-    let fits : SeatFits (catalogue_of c.args.sizes.now c.args.rules.now) c.args.seat = seat_fits_lem (catalogue_of c.args.sizes.now c.args.rules.now) c.args.seat c.requires.step_needs.fits in
-    let within : PlaceFits (catalogue_of c.args.sizes.now c.args.rules.now) c.args.place = place_at_work (catalogue_of c.args.sizes.now c.args.rules.now) c.requires.step_needs.no_fault c.args.seat fits c.args.place c.requires.state_value in
-    let shallow : c.args.place.depth < 16 = depth_below_16 (catalogue_of c.args.sizes.now c.args.rules.now) c.requires.step_needs.no_fault within in
+    let fits : SeatFits (catalogue_of c.args.sizes.now c.args.rules.now) c.args.seat = seat_fits_lem (catalogue_of c.args.sizes.now c.args.rules.now) c.args.seat c.requires.needs.fits in
+    let within : PlaceFits (catalogue_of c.args.sizes.now c.args.rules.now) c.args.place = place_at_work (catalogue_of c.args.sizes.now c.args.rules.now) c.requires.needs.no_fault c.args.seat fits c.args.place c.requires.at_work in
+    let shallow : c.args.place.depth < 16 = depth_below_16 (catalogue_of c.args.sizes.now c.args.rules.now) c.requires.needs.no_fault within in
     shallow
 
 pub tested_at-tested-requires : goal.tested_at-tested-requires
 tested_at-tested-requires c =
-    let fits : SeatFits (catalogue_of c.args.sizes.now c.args.rules.now) c.args.seat = seat_fits_lem (catalogue_of c.args.sizes.now c.args.rules.now) c.args.seat c.requires.step_needs.fits in
-    let within : PlaceFits (catalogue_of c.args.sizes.now c.args.rules.now) c.args.place = place_at_work (catalogue_of c.args.sizes.now c.args.rules.now) c.requires.step_needs.no_fault c.args.seat fits c.args.place c.requires.state_value in
-    let shallow : c.args.place.depth < 16 = depth_below_16 (catalogue_of c.args.sizes.now c.args.rules.now) c.requires.step_needs.no_fault within in
+    let fits : SeatFits (catalogue_of c.args.sizes.now c.args.rules.now) c.args.seat = seat_fits_lem (catalogue_of c.args.sizes.now c.args.rules.now) c.args.seat c.requires.needs.fits in
+    let within : PlaceFits (catalogue_of c.args.sizes.now c.args.rules.now) c.args.place = place_at_work (catalogue_of c.args.sizes.now c.args.rules.now) c.requires.needs.no_fault c.args.seat fits c.args.place c.requires.at_work in
+    let shallow : c.args.place.depth < 16 = depth_below_16 (catalogue_of c.args.sizes.now c.args.rules.now) c.requires.needs.no_fault within in
     let trial_long : length c.args.seat.trial ≡ 16 = search rules in
     record {
-      rules_value = (c.requires.step_needs.no_fault, c.requires.step_needs.starts);
-      j_bound = (shallow, length-set c.args.seat.trial c.args.place.depth c.args.place.next ∙ trial_long);
+      starts_known = (c.requires.needs.no_fault, c.requires.needs.starts);
+      sixteen_placed = (shallow, length-set c.args.seat.trial c.args.place.depth c.args.place.next ∙ trial_long);
     }
 
 pub after_step-after-requires : goal.after_step-after-requires
 after_step-after-requires c =
-    let fits : SeatFits (catalogue_of c.args.sizes.now c.args.rules.now) c.args.seat = seat_fits_lem (catalogue_of c.args.sizes.now c.args.rules.now) c.args.seat c.requires.step_needs.fits in
-    let within : PlaceFits (catalogue_of c.args.sizes.now c.args.rules.now) c.args.place = place_at_work (catalogue_of c.args.sizes.now c.args.rules.now) c.requires.step_needs.no_fault c.args.seat fits c.args.place c.requires.state_value in
+    let fits : SeatFits (catalogue_of c.args.sizes.now c.args.rules.now) c.args.seat = seat_fits_lem (catalogue_of c.args.sizes.now c.args.rules.now) c.args.seat c.requires.needs.fits in
+    let within : PlaceFits (catalogue_of c.args.sizes.now c.args.rules.now) c.args.place = place_at_work (catalogue_of c.args.sizes.now c.args.rules.now) c.requires.needs.no_fault c.args.seat fits c.args.place c.requires.at_work in
     let trial_long : length c.args.seat.trial ≡ 16 = search rules in
     let choices_long : length c.args.seat.choices ≡ 16 = search rules in
     record {
-      try_needs = record {
-        no_fault = c.requires.step_needs.no_fault;
+      needs = record {
+        no_fault = c.requires.needs.no_fault;
         within = fits_place within;
         sixteen_choices = choices_long;
-        placed_so = placed_so (catalogue_of c.args.sizes.now c.args.rules.now) c.requires.step_needs.no_fault c.args.seat fits c.args.place c.requires.state_value trial_long;
-        tried = tried_there (catalogue_of c.args.sizes.now c.args.rules.now) c.requires.step_needs.no_fault c.args.seat fits c.args.place c.requires.state_value trial_long;
+        placed_so = placed_so (catalogue_of c.args.sizes.now c.args.rules.now) c.requires.needs.no_fault c.args.seat fits c.args.place c.requires.at_work trial_long;
+        tried = tried_there (catalogue_of c.args.sizes.now c.args.rules.now) c.requires.needs.no_fault c.args.seat fits c.args.place c.requires.at_work trial_long;
         is_tested = c.tested_at-tested.ensures;
       };
-      share_len = c.requires.step_needs.whole_share;
+      whole_share = c.requires.needs.whole_share;
     }
 
 pub masks_after-requires : goal.masks_after-requires
 masks_after-requires c =
-    let fits : SeatFits (catalogue_of c.args.sizes.now c.args.rules.now) c.args.seat = seat_fits_lem (catalogue_of c.args.sizes.now c.args.rules.now) c.args.seat c.requires.step_needs.fits in
-    let within : PlaceFits (catalogue_of c.args.sizes.now c.args.rules.now) c.args.place = place_at_work (catalogue_of c.args.sizes.now c.args.rules.now) c.requires.step_needs.no_fault c.args.seat fits c.args.place c.requires.state_value in
-    let pair_below : (c.args.place.feature < 16) × (c.args.place.option < 16) = (feature_below_16 (catalogue_of c.args.sizes.now c.args.rules.now) c.requires.step_needs.no_fault within, option_below_16 (catalogue_of c.args.sizes.now c.args.rules.now) c.requires.step_needs.no_fault within) in
+    let fits : SeatFits (catalogue_of c.args.sizes.now c.args.rules.now) c.args.seat = seat_fits_lem (catalogue_of c.args.sizes.now c.args.rules.now) c.args.seat c.requires.needs.fits in
+    let within : PlaceFits (catalogue_of c.args.sizes.now c.args.rules.now) c.args.place = place_at_work (catalogue_of c.args.sizes.now c.args.rules.now) c.requires.needs.no_fault c.args.seat fits c.args.place c.requires.at_work in
+    let pair_below : (c.args.place.feature < 16) × (c.args.place.option < 16) = (feature_below_16 (catalogue_of c.args.sizes.now c.args.rules.now) c.requires.needs.no_fault within, option_below_16 (catalogue_of c.args.sizes.now c.args.rules.now) c.requires.needs.no_fault within) in
     pair_below
 
 pub trial_after-requires : goal.trial_after-requires
 trial_after-requires c =
-    let fits : SeatFits (catalogue_of c.args.sizes.now c.args.rules.now) c.args.seat = seat_fits_lem (catalogue_of c.args.sizes.now c.args.rules.now) c.args.seat c.requires.step_needs.fits in
-    let within : PlaceFits (catalogue_of c.args.sizes.now c.args.rules.now) c.args.place = place_at_work (catalogue_of c.args.sizes.now c.args.rules.now) c.requires.step_needs.no_fault c.args.seat fits c.args.place c.requires.state_value in
-    let shallow : c.args.place.depth < 16 = depth_below_16 (catalogue_of c.args.sizes.now c.args.rules.now) c.requires.step_needs.no_fault within in
+    let fits : SeatFits (catalogue_of c.args.sizes.now c.args.rules.now) c.args.seat = seat_fits_lem (catalogue_of c.args.sizes.now c.args.rules.now) c.args.seat c.requires.needs.fits in
+    let within : PlaceFits (catalogue_of c.args.sizes.now c.args.rules.now) c.args.place = place_at_work (catalogue_of c.args.sizes.now c.args.rules.now) c.requires.needs.no_fault c.args.seat fits c.args.place c.requires.at_work in
+    let shallow : c.args.place.depth < 16 = depth_below_16 (catalogue_of c.args.sizes.now c.args.rules.now) c.requires.needs.no_fault within in
     let trial_long : length c.args.seat.trial ≡ 16 = search rules in
     record {
-      depth_bound = (shallow, c.after_step-after.ensures.depth_bound, c.requires.step_needs.the_edge);
-      depth_value = (
-        nothing_from_depth (catalogue_of c.args.sizes.now c.args.rules.now) c.requires.step_needs.no_fault c.args.seat fits c.args.place c.requires.state_value trial_long c.args.place.depth (omega arith),
-        trial_bytes (catalogue_of c.args.sizes.now c.args.rules.now) c.requires.step_needs.no_fault c.args.seat fits c.args.place c.requires.state_value trial_long,
+      depth_within = (shallow, c.after_step-after.ensures.depth_in_reach, c.requires.needs.the_edge);
+      entries = (
+        nothing_from_depth (catalogue_of c.args.sizes.now c.args.rules.now) c.requires.needs.no_fault c.args.seat fits c.args.place c.requires.at_work trial_long c.args.place.depth (omega arith),
+        trial_bytes (catalogue_of c.args.sizes.now c.args.rules.now) c.requires.needs.no_fault c.args.seat fits c.args.place c.requires.at_work trial_long,
       );
     }
 
 pub masks_after-requires-2 : goal.masks_after-requires-2
 masks_after-requires-2 c =
-    let fits : SeatFits (catalogue_of c.args.sizes.now c.args.rules.now) c.args.seat = seat_fits_lem (catalogue_of c.args.sizes.now c.args.rules.now) c.args.seat c.requires.step_needs.fits in
-    let within : PlaceFits (catalogue_of c.args.sizes.now c.args.rules.now) c.args.place = place_at_work (catalogue_of c.args.sizes.now c.args.rules.now) c.requires.step_needs.no_fault c.args.seat fits c.args.place c.requires.state_value in
-    let pair_below : (c.args.place.feature < 16) × (c.args.place.option < 16) = (feature_below_16 (catalogue_of c.args.sizes.now c.args.rules.now) c.requires.step_needs.no_fault within, option_below_16 (catalogue_of c.args.sizes.now c.args.rules.now) c.requires.step_needs.no_fault within) in
+    let fits : SeatFits (catalogue_of c.args.sizes.now c.args.rules.now) c.args.seat = seat_fits_lem (catalogue_of c.args.sizes.now c.args.rules.now) c.args.seat c.requires.needs.fits in
+    let within : PlaceFits (catalogue_of c.args.sizes.now c.args.rules.now) c.args.place = place_at_work (catalogue_of c.args.sizes.now c.args.rules.now) c.requires.needs.no_fault c.args.seat fits c.args.place c.requires.at_work in
+    let pair_below : (c.args.place.feature < 16) × (c.args.place.option < 16) = (feature_below_16 (catalogue_of c.args.sizes.now c.args.rules.now) c.requires.needs.no_fault within, option_below_16 (catalogue_of c.args.sizes.now c.args.rules.now) c.requires.needs.no_fault within) in
     pair_below
 
 pub returns : goal.returns
 returns c =
-    let fits : SeatFits (catalogue_of c.args.sizes.now c.args.rules.now) c.args.seat = seat_fits_lem (catalogue_of c.args.sizes.now c.args.rules.now) c.args.seat c.requires.step_needs.fits in
-    let within : PlaceFits (catalogue_of c.args.sizes.now c.args.rules.now) c.args.place = place_at_work (catalogue_of c.args.sizes.now c.args.rules.now) c.requires.step_needs.no_fault c.args.seat fits c.args.place c.requires.state_value in
-    let shallow : c.args.place.depth < 16 = depth_below_16 (catalogue_of c.args.sizes.now c.args.rules.now) c.requires.step_needs.no_fault within in
+    let fits : SeatFits (catalogue_of c.args.sizes.now c.args.rules.now) c.args.seat = seat_fits_lem (catalogue_of c.args.sizes.now c.args.rules.now) c.args.seat c.requires.needs.fits in
+    let within : PlaceFits (catalogue_of c.args.sizes.now c.args.rules.now) c.args.place = place_at_work (catalogue_of c.args.sizes.now c.args.rules.now) c.requires.needs.no_fault c.args.seat fits c.args.place c.requires.at_work in
+    let shallow : c.args.place.depth < 16 = depth_below_16 (catalogue_of c.args.sizes.now c.args.rules.now) c.requires.needs.no_fault within in
     let trial_long : length c.args.seat.trial ≡ 16 = search rules in
-    let nothing = nothing_from_depth (catalogue_of c.args.sizes.now c.args.rules.now) c.requires.step_needs.no_fault c.args.seat fits c.args.place c.requires.state_value trial_long in
+    let nothing = nothing_from_depth (catalogue_of c.args.sizes.now c.args.rules.now) c.requires.needs.no_fault c.args.seat fits c.args.place c.requires.at_work trial_long in
     let under = kept_under c.args.seat.trial trial_long c.args.place.depth c.args.place.next (omega (arith, shallow)) nothing in
     rw (c.masks_after.ensures, c.trial_after.ensures, c.masks_after-2.ensures)
     (kept_so (catalogue_of c.args.sizes.now c.args.rules.now) c.args.place c.tested_at-tested.result (clinic_of c.args.seat c.args.share.now) _ _

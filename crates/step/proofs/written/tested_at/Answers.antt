@@ -13,12 +13,12 @@ test-requires c =
     let span : c.args.j * 64 + c.byte-count.result - c.args.j * 64 ≡ c.byte-count.result = omega arith in
     let span-2 : 16 + c.args.j * 64 + c.byte-count.result - (16 + c.args.j * 64) ≡ c.byte-count.result = omega arith in
     record {
-      rules_value = fault_whole catalogue c.requires.rules_value.0;
-      starts_value = (
-        rw (span, c.byte-count.ensures.0) (c.requires.rules_value.1.are_starts c.args.j c.requires.j_bound.0),
-        rw (span-2, c.byte-count.ensures.0) (c.requires.rules_value.1.are_numbers c.args.j c.requires.j_bound.0),
+      rules_whole = fault_whole catalogue c.requires.starts_known.0;
+      starts_known = (
+        rw (span, c.byte-count.ensures.0) (c.requires.starts_known.1.are_starts c.args.j c.requires.sixteen_placed.0),
+        rw (span-2, c.byte-count.ensures.0) (c.requires.starts_known.1.are_numbers c.args.j c.requires.sixteen_placed.0),
       );
-      features_below = rw c.requires.j_bound.1 (fault_below catalogue c.requires.rules_value.0);
+      features_below = rw c.requires.sixteen_placed.1 (fault_below catalogue c.requires.starts_known.0);
     }
 
 pub returns : goal.returns

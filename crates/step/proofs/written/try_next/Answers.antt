@@ -21,7 +21,7 @@ pub given_up-requires : goal.given_up-requires
 given_up-requires c =
     let within : PlaceFits (catalogue_of c.args.sizes.now c.args.rules.now) c.args.place = place_fits_lem (catalogue_of c.args.sizes.now c.args.rules.now) c.args.place c.requires.within in
     record {
-      choices_len = (c.requires.sixteen_choices, few_features (catalogue_of c.args.sizes.now c.args.rules.now) c.requires.no_fault, within.depth_below);
+      within = (c.requires.sixteen_choices, few_features (catalogue_of c.args.sizes.now c.args.rules.now) c.requires.no_fault, within.depth_below);
       placed_at = c.requires.placed_so;
     }
 
@@ -34,8 +34,8 @@ returns-in-Broke c =
     let test_is : is_none (rule_broken c.args.tested) ≡ (passes (rules_of (catalogue_of c.args.sizes.now c.args.rules.now)) c.args.place.depth c.args.placed.now) = ap is_none c.requires.is_tested in
     let test_failed : (passes (rules_of (catalogue_of c.args.sizes.now c.args.rules.now)) c.args.place.depth c.args.placed.now) ≡ false = sym test_is ∙ rw c.in-Broke.is refl in
     record {
-      result_bound = omega (arith, c.given_up.ensures.result_bound);
-      placed_value = rw (again, test_failed, ← c.requires.tried) c.given_up.ensures.placed_value;
+      depth_in_reach = omega (arith, c.given_up.ensures.depth_in_reach);
+      tries = rw (again, test_failed, ← c.requires.tried) c.given_up.ensures.gives_up;
     }
 
 pub returns-then-j-sizes : goal.returns-then-j-sizes
@@ -47,8 +47,8 @@ returns-then-j-sizes c =
     let test_is : is_none (rule_broken c.args.tested) ≡ (passes (rules_of (catalogue_of c.args.sizes.now c.args.rules.now)) c.args.place.depth c.args.placed.now) = ap is_none c.requires.is_tested in
     let test_passed : (passes (rules_of (catalogue_of c.args.sizes.now c.args.rules.now)) c.args.place.depth c.args.placed.now) ≡ true = sym test_is ∙ rw c.in-Passed.is refl in
     record {
-      result_bound = omega arith;
-      placed_value = rw (again, test_passed, eq-eqb (c.args.place.depth + 1) (length c.args.sizes.now) c.if-j-sizes.true) refl;
+      depth_in_reach = omega arith;
+      tries = rw (again, test_passed, eq-eqb (c.args.place.depth + 1) (length c.args.sizes.now) c.if-j-sizes.true) refl;
     }
 
 pub first_candidate-first-requires : goal.first_candidate-first-requires
@@ -67,7 +67,7 @@ returns c =
     let test_is : is_none (rule_broken c.args.tested) ≡ (passes (rules_of (catalogue_of c.args.sizes.now c.args.rules.now)) c.args.place.depth c.args.placed.now) = ap is_none c.requires.is_tested in
     let test_passed : (passes (rules_of (catalogue_of c.args.sizes.now c.args.rules.now)) c.args.place.depth c.args.placed.now) ≡ true = sym test_is ∙ rw c.in-Passed.is refl in
     record {
-      result_bound = omega arith;
-      placed_value = rw (again, test_passed, ne_eqb (c.args.place.depth + 1) (length c.args.sizes.now) c.if-j-sizes.false, ← (kept_whole c.requires.placed_so shallow), c.first_candidate-first.ensures)
+      depth_in_reach = omega arith;
+      tries = rw (again, test_passed, ne_eqb (c.args.place.depth + 1) (length c.args.sizes.now) c.if-j-sizes.false, ← (kept_whole c.requires.placed_so shallow), c.first_candidate-first.ensures)
           refl;
     }
