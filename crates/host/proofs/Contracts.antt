@@ -8,7 +8,8 @@ use prog.Routine.{Routine}
 use types.Logic.{Logic}
 use contract.Monad.{Fun}
 use contract.Notation.{connectives}
-use denote.Ref.{Bor}
+use denote.Bor.{Bor}
+use denote.MutBor.{MutBor}
 use Prim.Native.Nat.{ℕ}
 use mathlib.Core.Path.{◌≡◌, refl}
 use mathlib.Core.List.{List}
@@ -33,18 +34,18 @@ use Rattle.host.specs.contracts.nethazel_example_layout_2 as example
 use Rattle.host.specs.contracts.nethazel_ran_into_layout_2 as ran_into
 use Rattle.host.specs.contracts.nethazel_turns_layout_2 as turning
 
--- what every call but open is handed: the host's desk, board, sizes, rules, then its own numbers
-abbrev Handed : Type 0 → Type 0
-Handed Numbers = HostDesk × (Bor (List ℕ) × (Bor (List ℕ) × (Bor (List ℕ) × Numbers)))
+-- what every call but open is handed: the host's desk, a board to change or to read, sizes, rules, then its own numbers
+abbrev Handed : Type 0 → Type 0 → Type 0
+Handed Board Numbers = HostDesk × (Board × (Bor (List ℕ) × (Bor (List ℕ) × Numbers)))
 
-abbrev numbers : {Numbers : Type 0} → Handed Numbers → Numbers
+abbrev numbers : {Board Numbers : Type 0} → Handed Board Numbers → Numbers
 numbers handed = handed.1.1.1.1
 
-abbrev outcome : {Numbers : Type 0} → Handed Numbers → Call → HostOutcome
+abbrev outcome : {Numbers : Type 0} → Handed (MutBor (List ℕ)) Numbers → Call → HostOutcome
 outcome handed call = through_door (catalogue_of handed.1.1.0.now handed.1.1.1.0.now) call handed.0 handed.1.0.now
 
 -- the desk's own outcome, of a call that reads
-abbrev read : {Numbers : Type 0} → Handed Numbers → Call → Outcome
+abbrev read : {Numbers : Type 0} → Handed (Bor (List ℕ)) Numbers → Call → Outcome
 read handed call = inside (catalogue_of handed.1.1.0.now handed.1.1.1.0.now) call handed.0 handed.1.0.now
 
 module _ {M : Type 1} {𝓤 : Ura M} (𝓛 : Logic 𝓤) (mem : Memory → SProp 𝓤) (run : Routine → Fun 𝓤) where

@@ -1,6 +1,6 @@
 // The records that a C or Rust host holds: plain numbers and arrays, laid out as C lays them out.
 #[repr(C)]
-#[derive(Drop)]
+#[derive(Clone, Copy)]
 pub struct HostSeat {
     pub state: u8, // 0 closed, 1 ready, 2 at work
     pub feature: u8, // the place at work, all 0 in the other states
@@ -15,21 +15,21 @@ pub struct HostSeat {
 }
 
 #[repr(C)]
-#[derive(Drop)]
+#[derive(Clone, Copy)]
 pub struct HostDesk {
     pub seats: [HostSeat; 8],
     pub next: u8,
 }
 
 #[repr(C)]
-#[derive(Drop)]
+#[derive(Clone, Copy)]
 pub struct HostChanged {
     pub number: u8,
     pub desk: HostDesk,
 }
 
 #[repr(C)]
-#[derive(Drop)]
+#[derive(Clone, Copy)]
 pub struct HostLeft {
     pub number: u8,
     pub mask: u16,
@@ -38,7 +38,7 @@ pub struct HostLeft {
 
 // Where in the caller's board the sixteen bytes stand: an exported function can't hand out a part of a slice.
 #[repr(C)]
-#[derive(Drop)]
+#[derive(Clone, Copy)]
 pub struct HostExample {
     pub number: u8,
     pub from: usize,
@@ -46,14 +46,14 @@ pub struct HostExample {
 }
 
 #[repr(C)]
-#[derive(Drop)]
+#[derive(Clone, Copy)]
 pub struct HostRan {
     pub number: u8,
     pub rule: u8, // 255 for none; 0 where the call is refused
 }
 
 #[repr(C)]
-#[derive(Drop)]
+#[derive(Clone, Copy)]
 pub struct HostTurned {
     pub number: u8,
     pub made: u16,

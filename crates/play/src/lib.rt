@@ -1,5 +1,7 @@
 // A script of any numbers, played from an opening: its calls one after another, each on desk and board as the one before
 // left them. At the end they are those of the run that the promises speak of.
+#![tactic(auto)]
+
 ghost use Rattle.std.specs.Prelude.{◌≡◌};
 ghost use Rattle.builds.specs.Catalogue.{catalogue_of};
 ghost use Rattle.runs.specs.Room.{room_of};
