@@ -34,7 +34,8 @@ fn pick(there: bool, yes: u16, no: u16) -> u16
 // that sixteen entries are made at once.
 pub fn trial_after(trial: [u8; 16], edge: &[u8], depth: u8, next: u8, kept: u8) -> [u8; 16]
     requires depth_within { (depth < 16) × (kept ≤ depth + 1) × (edge.now ≡ edge_bytes) }
-    requires entries { (get_or trial depth 255 ≡ 255) × ((f : ℕ) → get_or trial f 255 < 256) } // the entries of a [u8; 16]
+    // The entries are those of a [u8; 16].
+    requires entries { (get_or trial depth 255 ≡ 255) × ((f : ℕ) → get_or trial f 255 < 256) }
     ensures { result ≡ kept_before kept (set trial depth next) }
 {
     let old = 16 - depth as usize;
