@@ -30,12 +30,12 @@ slice_bounds-highest-end c =
 
 pub bounds-places-feature : goal.bounds-places-feature
 bounds-places-feature c =
-    let count_low : get_or c.loop-place.counts c.highest-feature.result 0 < 64 = below_64 c.loop-place.invariant c.loop-place-test.true c.highest-feature.result c.if-feature-lt16.true in
+    let count_low = below_64 c.loop-place.invariant c.loop-place-test.true _ c.if-feature-lt16.true in
     omega (arith, count_low)
 
 pub bounds-counts-feature-then-feature-lt16 : goal.bounds-counts-feature-then-feature-lt16
 bounds-counts-feature-then-feature-lt16 c =
-    let count_low : get_or c.loop-place.counts c.highest-feature.result 0 < 64 = below_64 c.loop-place.invariant c.loop-place-test.true c.highest-feature.result c.if-feature-lt16.true in
+    let count_low = below_64 c.loop-place.invariant c.loop-place-test.true _ c.if-feature-lt16.true in
     omega (arith, count_low)
 
 pub loop-place-preserved : goal.loop-place-preserved
