@@ -83,7 +83,7 @@ fn lines<R: Read>(
     )
 }
 
-// Nothing says that input ends, so the loop counts its turns down from a number that no run uses up.
+// Nothing says that input ends, so the loop has a number of turns that no run uses up.
 fn read_all<R: Read>(
     console: &Console,
     from: &mut R,
