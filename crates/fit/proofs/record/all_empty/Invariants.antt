@@ -1,13 +1,9 @@
 -- The flag says whether all features passed have neither a choice nor a mask bit. Each of a turn's two tests lowers it
 -- or leaves it.
-use Prim.Native.Nat.{◌-◌, ◌≤◌}
 use mathlib.Core.Path.{◌≡◌}
 use Rattle.builds.specs.Lists.{every_below}
 use Rattle.search.specs.RecordFits.{empty_at}
 use Rattle.fit.proofs.record.all_empty.Given as goal
 
 abbrev pub invariant-loop-f : goal.invariant-loop-f
-invariant-loop-f l = (l.f ≤ 16) × (l.empty ≡ every_below l.f (empty_at l.choices l.masks))
-
-abbrev pub decreases-loop-f : goal.decreases-loop-f
-decreases-loop-f l = 16 - l.f
+invariant-loop-f l = (l.empty ≡ every_below l.f (empty_at l.choices l.masks))
