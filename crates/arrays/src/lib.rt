@@ -1,7 +1,7 @@
 // The arrays of a record after a step, each made whole: so masks and trial go from one record to the other in registers.
 #![tactic(auto)]
 
-ghost use Rattle.std.specs.Prelude.{◌≡◌, cond, ℕ, ◌+◌, ◌<◌, ◌≤◌, get_or, set};
+ghost use Rattle.std.specs.Prelude.{◌≡◌, ℕ, ◌+◌, ◌<◌, ◌≤◌, get_or, set};
 ghost use Rattle.search.specs.Inner.Placed.{kept_before, edge_bytes, masks_with};
 
 // The masks, made whole: with the bit of an option for which a build was found.

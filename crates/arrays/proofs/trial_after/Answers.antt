@@ -18,7 +18,7 @@ loop-f-preserved c =
     let made = entry_made c.args.trial sixteen c.requires.entries.1 c.args.depth c.args.next c.args.kept (omega arith) c.requires.depth_within.0 c.requires.entries.0 c.requires.depth_within.1 c.loop-f.f (omega arith) in (
       length-set c.loop-f.after c.loop-f.f _ ∙ c.loop-f.invariant.0,
       one_filled (kept_before c.args.kept (set c.args.trial c.args.depth c.args.next)) c.loop-f.after 255 c.loop-f.f _ (omega (arith, c.loop-f.invariant.0)) (omega (arith, long))
-          (rw (c.from-old.ensures, c.from-new.ensures, read, c.requires.depth_within.2) made) c.loop-f.invariant.1,
+          (simp (c.from-old.ensures, c.from-new.ensures) (rw (read, c.requires.depth_within.2) made)) c.loop-f.invariant.1,
     )
 
 pub returns : goal.returns
