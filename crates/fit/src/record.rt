@@ -193,27 +193,18 @@ fn placed_fit(trial: &[u8; 16], depth: usize, sizes: &[u8]) -> bool
     (0..depth.min(16)).all(|f| usize::from(trial[f]) < size_at(sizes, f))
 }
 
-// No choice, and no bit in a mask. No early exit, as for the trial.
+// No choice, and no bit in a mask.
 fn all_empty(choices: &[u8; 16], masks: &[u16; 16]) -> bool
     ensures { result ≡ every_below 16 (empty_at choices.now masks.now) }
 {
-    let mut empty = true;
-    for f in 0..16 {
-        empty &= choices[f] == 255;
-        empty &= masks[f] == 0;
-    }
-    empty
+    *choices == [255; 16] && none_set(masks)
 }
 
-// No bit in any mask. No early exit, so that all sixteen are compared at once.
+// No bit in any mask: all sixteen are compared at once.
 fn none_set(masks: &[u16; 16]) -> bool
     ensures { result ≡ every_below 16 (no_bit masks.now) }
 {
-    let mut none = true;
-    for f in 0..16 {
-        none &= masks[f] == 0;
-    }
-    none
+    *masks == [0; 16]
 }
 
 fn place_fits(place: Place, sizes: &[u8], rules: &[u16]) -> bool
