@@ -18,24 +18,14 @@ pub fn seat_fits(seat: Seat, sizes: &[u8], rules: &[u16]) -> bool
     requires { fault_of (catalogue_of sizes.now rules.now) ≡ 0 }
     ensures { result ≡ seat_fits (catalogue_of sizes.now rules.now) seat }
 {
-    let Seat {
-        state,
-        choices,
-        masks,
-        trial,
-        alternatives,
-        broken,
-    } = seat;
-    if !broken_fits(state, broken, rules) {
+    if !broken_fits(seat.state, seat.broken, rules) {
         return false;
     }
-    match state {
-        State::Closed => closed_fits(&choices, &masks, &alternatives, &trial, sizes),
-        State::Ready => open_fits(&choices, &masks, &alternatives, &trial, 0, sizes),
+    match seat.state {
+        State::Closed => closed_fits(&seat, sizes),
+        State::Ready => open_fits(&seat, 0, sizes),
         State::AtWork(place) => {
-            let depth = usize::from(place.depth);
-            place_fits(place, sizes, rules)
-                && open_fits(&choices, &masks, &alternatives, &trial, depth, sizes)
+            place_fits(place, sizes, rules) && open_fits(&seat, usize::from(place.depth), sizes)
         }
     }
 }
@@ -71,39 +61,28 @@ fn has_rule(rules: &[u16], number: u8) -> bool
 }
 
 // What is asked of the choices, masks, alternatives and trial of a closed seat.
-fn closed_fits(
-    choices: &[u8; 16],
-    masks: &[u16; 16],
-    alternatives: &[u16; 16],
-    trial: &[u8; 16],
-    sizes: &[u8],
-) -> bool
-    ensures { result ≡ (every_below 16 (empty_at choices.now masks.now)
-        && every_below 16 (no_bit alternatives.now)
-        && every_below 16 (entry_fits sizes.now 0 trial.now)) }
+fn closed_fits(seat: &Seat, sizes: &[u8]) -> bool
+    ensures { result ≡ (every_below 16 (empty_at seat.now.choices seat.now.masks)
+        && every_below 16 (no_bit seat.now.alternatives)
+        && every_below 16 (entry_fits sizes.now 0 seat.now.trial)) }
 {
-    all_empty(choices, masks) && none_set(alternatives) && trial_fits(trial, 0, sizes)
+    all_empty(&seat.choices, &seat.masks)
+        && none_set(&seat.alternatives)
+        && trial_fits(&seat.trial, 0, sizes)
 }
 
 // What is asked of those of an open seat.
-fn open_fits(
-    choices: &[u8; 16],
-    masks: &[u16; 16],
-    alternatives: &[u16; 16],
-    trial: &[u8; 16],
-    depth: usize,
-    sizes: &[u8],
-) -> bool
+fn open_fits(seat: &Seat, depth: usize, sizes: &[u8]) -> bool
     requires { sizes_fault sizes.now ≡ 0 }
-    ensures { result ≡ (every_below 16 (choice_fits sizes.now choices.now)
-        && every_below 16 (mask_fits sizes.now masks.now)
-        && every_below 16 (alternatives_fit sizes.now choices.now alternatives.now)
-        && every_below 16 (entry_fits sizes.now depth trial.now)) }
+    ensures { result ≡ (every_below 16 (choice_fits sizes.now seat.now.choices)
+        && every_below 16 (mask_fits sizes.now seat.now.masks)
+        && every_below 16 (alternatives_fit sizes.now seat.now.choices seat.now.alternatives)
+        && every_below 16 (entry_fits sizes.now depth seat.now.trial)) }
 {
-    choices_fit(choices, sizes)
-        && masks_fit(masks, sizes)
-        && alternatives_fit(choices, alternatives, sizes)
-        && trial_fits(trial, depth, sizes)
+    choices_fit(&seat.choices, sizes)
+        && masks_fit(&seat.masks, sizes)
+        && alternatives_fit(&seat.choices, &seat.alternatives, sizes)
+        && trial_fits(&seat.trial, depth, sizes)
 }
 
 // Each choice is 255 or an option of its feature.

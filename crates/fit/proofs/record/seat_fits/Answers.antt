@@ -147,7 +147,7 @@ pub returns-then-place_fits : goal.returns-then-place_fits
 unfolding rules_of
 returns-then-place_fits c =
     let catalogue = catalogue_of c.args.sizes.now c.args.rules.now in
-    let depth : c.from-depth.result ≡ c.in-AtWork.place.depth = c.from-depth.ensures in
+    let depth : c.from.result ≡ c.in-AtWork.place.depth = c.from.ensures in
     (rw depth at c.open_fits-then-place_fits.ensures)
     ∙ sym (state_on catalogue c.args.seat (AtWork c.in-AtWork.place) c.in-AtWork.is
     (sym c.broken_fits.ensures ∙ c.if-not-broken_fits.false) (sym c.place_fits.ensures ∙ c.if-place_fits.true))
