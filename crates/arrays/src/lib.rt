@@ -1,7 +1,7 @@
 // The arrays of a record after a step, each made whole: so masks and trial go from one record to the other in registers.
 #![tactic(auto)]
 
-ghost use Rattle.std.specs.Prelude.{◌≡◌, cond, ℕ, ◌+◌, ◌<◌, ◌≤◌, get_or, set};
+ghost use Rattle.std.specs.Prelude.{◌≡◌, ℕ, ◌+◌, ◌<◌, ◌≤◌, get_or, set};
 ghost use Rattle.search.specs.Inner.Placed.{kept_before, edge_bytes, masks_with};
 
 // The masks, made whole: with the bit of an option for which a build was found.
@@ -12,22 +12,14 @@ pub fn masks_after(masks: [u16; 16], feature: u8, option: u8, found: bool) -> [u
     if !found {
         return masks;
     }
-    let i = feature as usize;
+    let i = usize::from(feature);
     let bit = 1u16 << option;
     let mut with = [0u16; 16];
-    let mut f = 0usize;
-    while f < 16 {
+    for f in 0..16 {
         let mask = masks[f];
-        with[f] = pick(f == i, mask | bit, mask);
-        f += 1;
+        with[f] = if f == i { mask | bit } else { mask };
     }
     with
-}
-
-fn pick(there: bool, yes: u16, no: u16) -> u16
-    ensures { result ≡ cond there yes no }
-{
-    if there { yes } else { no }
 }
 
 // The trial, made whole: with `next` at the old depth, and 255 from the new one on. The edge is 255 before a depth, so
@@ -38,13 +30,11 @@ pub fn trial_after(trial: [u8; 16], edge: &[u8], depth: u8, next: u8, kept: u8) 
     requires entries { (get_or trial depth 255 ≡ 255) × ((f : ℕ) → get_or trial f 255 < 256) }
     ensures { result ≡ kept_before kept (set trial depth next) }
 {
-    let old = 16 - depth as usize;
-    let new = 16 - kept as usize;
+    let old = 16 - usize::from(depth);
+    let new = 16 - usize::from(kept);
     let mut after = [255u8; 16];
-    let mut f = 0usize;
-    while f < 16 {
+    for f in 0..16 {
         after[f] = (trial[f] & (edge[old + f] | next)) | (255 - edge[new + f]);
-        f += 1;
     }
     after
 }
@@ -55,10 +45,6 @@ pub fn edge() -> [u8; 32]
     ensures { result ≡ edge_bytes }
 {
     let mut bytes = [0u8; 32];
-    let mut i = 0usize;
-    while i < 16 {
-        bytes[i] = 255;
-        i += 1;
-    }
+    bytes[..16].fill(255);
     bytes
 }

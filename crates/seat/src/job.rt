@@ -20,21 +20,21 @@ pub fn clinic_after(asking: Asking, seat: Seat, share: &mut [u8], sizes: &[u8]) 
     match asking {
         Asking::Enter => post([255u8; 16], share, sizes),
         Asking::Leave => close(share),
-        Asking::Choose { feature, option } => post_with(seat, share, sizes, feature, option),
+        Asking::Choose { feature, option } => post_with(seat, share, sizes, feature, option as u8),
         Asking::Relax { feature } => post_with(seat, share, sizes, feature, 255),
         Asking::Read(_) => seat,
     }
 }
 
 // A job under the choices with one set, or dropped.
-fn post_with(seat: Seat, share: &mut [u8], sizes: &[u8], feature: usize, option: usize) -> Seat
+fn post_with(seat: Seat, share: &mut [u8], sizes: &[u8], feature: usize, option: u8) -> Seat
     requires lent_whole { (length share.old ≡ 4096) × (1 ≤ get_or sizes.now 0 0) }
-    requires placeable { (feature < 16) × (option < 256) × HasBit option × HaveBits seat.choices }
+    requires placeable { (feature < 16) × HasBit option × HaveBits seat.choices }
     ensures { clinic_of result share.new
         ≡ posted sizes.now (set seat.choices feature option) }
 {
     let mut choices = seat.choices;
-    choices[feature] = (option % 256) as u8;
+    choices[feature] = option;
     post(choices, share, sizes)
 }
 
@@ -63,18 +63,15 @@ pub fn closed() -> Seat
 // Masks emptied, but for the options in force among the alternatives; share filled with 255; no rule broken; pair (0, 0).
 fn post(choices: [u8; 16], share: &mut [u8], sizes: &[u8]) -> Seat
     requires lent_whole { (length share.old ≡ 4096) × (1 ≤ get_or sizes.now 0 0) }
-    requires sixteen_choices { (length choices ≡ 16) × HaveBits choices }
+    requires bits { HaveBits choices }
     ensures { clinic_of result share.new ≡ posted sizes.now choices }
 {
     empty(share);
-    let state = started(sizes, &choices, 0, 0);
     Seat {
-        state,
+        state: started(sizes, &choices, 0, 0),
         choices,
-        masks: [0u16; 16],
-        trial: [255u8; 16],
         alternatives: in_force(choices),
-        broken: 255, // none in this job yet
+        ..closed()
     }
 }
 
@@ -84,10 +81,8 @@ fn in_force(choices: [u8; 16]) -> [u16; 16]
     ensures { result ≡ map in_force choices }
 {
     let mut bits = [0u16; 16];
-    let mut f = 0usize;
-    while f < 16 {
+    for f in 0..16 {
         bits[f] = bit_of(choices[f]);
-        f += 1;
     }
     bits
 }
@@ -97,8 +92,5 @@ fn bit_of(choice: u8) -> u16
     requires { HasBit choice }
     ensures { result ≡ in_force choice }
 {
-    if choice == 255 {
-        return 0;
-    }
-    1u16 << choice
+    if choice == 255 { 0 } else { 1u16 << choice }
 }

@@ -6,11 +6,7 @@ ghost use Rattle.builds.specs.Lists.{put};
 pub fn empty(share: &mut [u8])
     ensures { share.new ≡ replicate (length share.old) 255 }
 {
-    let mut i = 0;
-    while i < share.len() {
-        share[i] = 255;
-        i += 1;
-    }
+    share.fill(255);
 }
 
 // Writes sixteen bytes over those that stand from a place on.
@@ -18,18 +14,5 @@ pub fn write_example(share: &mut [u8], place: usize, example: &[u8])
     requires { (length example.now ≡ 16) × (place + 16 ≤ length share.old) }
     ensures { share.new ≡ put share.old place example.now }
 {
-    let end = place + 16;
-    copy(&mut share[place..end], example);
-}
-
-// Copies sixteen bytes into a part of that length.
-fn copy(into: &mut [u8], example: &[u8])
-    requires { (length example.now ≡ 16) × (length into.old ≡ 16) }
-    ensures { into.new ≡ example.now }
-{
-    let mut i = 0usize;
-    while i < 16 {
-        into[i] = example[i];
-        i += 1;
-    }
+    share[place..place + 16].copy_from_slice(example);
 }

@@ -1,50 +1,40 @@
-use Prim.Native.Nat.{ℕ, ◌<◌}
-use mathlib.Core.Path.{◌≡◌, refl}
-use mathlib.Core.Bool.{Bool, ◌&&◌, and_assoc}
+-- Entries that are empty both ways are so each way.
+use Prim.Native.Nat.{ℕ, zero, suc}
+use mathlib.Core.Path.{◌≡◌, refl, sym, ◌∙◌}
+use mathlib.Core.Bool.{Bool, true, false, ◌&&◌}
 use mathlib.Core.List.{List}
-use native.Mathlib.Omega.{arith}
-use borrow.Author.Tests.{eq-eqb, ne_eqb}
 use lib.Dec.{eqb}
-use lib.ListN.{length, get_or}
-use Rattle.builds.proofs.PlacedWalks.{get_d_within}
+use lib.ListN.{get_or}
 use Rattle.builds.specs.Lists.{every_below}
 use Rattle.search.specs.RecordFits.{empty_at}
-use Rattle.search.proofs.EveryBelow.{flag_on, falls, stays}
+use Rattle.fit.specs.Inner.Masks.{no_bit}
+use Rattle.fit.proofs.EveryFeature.{all_one_value}
 use Rattle.fit.proofs.record.all_empty.Goals as goal
-use Rattle.fit.proofs.record.all_empty.Goals.{then-choices-f, else-choices-f, then-masks-f-ne0, else-masks-f-ne0}
 
-both_tests : (choices masks : List ℕ) (f : ℕ) → f < length choices → (flag between after : Bool)
-    → between ≡ (flag && eqb (get_or choices f 0) 255)
-    → after ≡ (between && eqb (get_or masks f 0) 0)
-    → after ≡ (flag && empty_at choices masks f)
-both_tests choices masks f within flag between after choice mask =
-    rw (
-      get_d_within choices f 255 0 within,
-      ← and_assoc flag (eqb (get_or choices f 0) 255) (eqb (get_or masks f 0) 0),
-      ← choice,
-    )
-    mask
+exchanged : (a b choice mask : Bool) → ((a && b) && (choice && mask)) ≡ ((a && choice) && (b && mask))
+exchanged false b choice mask = refl
+exchanged true false false mask = refl
+exchanged true false true mask = refl
+exchanged true true choice mask = refl
 
-pub loop-f-init : goal.loop-f-init
-unfolding every_below
-loop-f-init c = (omega arith, refl)
+module _ (choices masks : List ℕ) where
+  abbrev chosen_none : ℕ → Bool
+  chosen_none f = eqb (get_or choices f 255) 255
 
-pub loop-f-preserved : goal.loop-f-preserved
-loop-f-preserved c =
-    let loop = c.loop-f in
+  both_ways : (n : ℕ) → every_below n (empty_at choices masks) ≡ (every_below n chosen_none && every_below n (no_bit masks))
+  unfolding every_below
+  both_ways zero = refl
+  both_ways (suc n) =
+      rw (both_ways n) (exchanged (every_below n chosen_none) (every_below n (no_bit masks)) (chosen_none n) (no_bit masks n))
+
+pub returns-then-eq : goal.returns-then-eq
+returns-then-eq c =
     let a = c.args in
-    let choice : c.if-choices-f.empty ≡ (loop.empty && eqb (get_or a.choices.now loop.f 0) 255) =
-    elim c.if-choices-f.branch [
-      | then-choices-f w ↦ falls loop.empty _ _ w.empty-is (ne_eqb _ _ w.if-choices-f.true)
-      | else-choices-f w ↦ stays loop.empty _ _ w.empty-is (eq-eqb _ _ w.if-choices-f.false)
-    ] in
-    let mask : c.if-masks-f-ne0.empty ≡ (c.if-choices-f.empty && eqb (get_or a.masks.now loop.f 0) 0) =
-    elim c.if-masks-f-ne0.branch [
-      | then-masks-f-ne0 w ↦ falls c.if-choices-f.empty _ _ w.empty-is (ne_eqb _ _ w.if-masks-f-ne0.true)
-      | else-masks-f-ne0 w ↦ stays c.if-choices-f.empty _ _ w.empty-is (eq-eqb _ _ w.if-masks-f-ne0.false)
-    ] in (
-      omega arith,
-      flag_on (empty_at a.choices.now a.masks.now) loop.f loop.empty c.if-masks-f-ne0.empty loop.invariant.1
-          (both_tests a.choices.now a.masks.now loop.f (omega arith) loop.empty c.if-choices-f.empty
-          c.if-masks-f-ne0.empty choice mask),
-    )
+    let none : every_below 16 (chosen_none a.choices.now a.masks.now) ≡ true = sym (all_one_value a.choices.now 255 16 c.told-choices) ∙ sym c.eq.ensures ∙ c.if-eq.true in
+    rw (both_ways a.choices.now a.masks.now 16, none) c.none_set.ensures
+
+pub returns-else-eq : goal.returns-else-eq
+returns-else-eq c =
+    let a = c.args in
+    let some : every_below 16 (chosen_none a.choices.now a.masks.now) ≡ false = sym (all_one_value a.choices.now 255 16 c.told-choices) ∙ sym c.eq.ensures ∙ c.if-eq.false in
+    rw (both_ways a.choices.now a.masks.now 16, some) c.if-eq.false

@@ -19,8 +19,10 @@ bounds-rest-1 c =
 
 pub loop-place-preserved : goal.loop-place-preserved
 loop-place-preserved c =
-    let width_read : 2 + c.wide-k.result + c.wide-k.result * c.wide-m.result ≡ width (drop c.loop-place.place c.args.rules.now) = let arity-is = rw left_lent at c.wide-k.ensures.0 in
-    let rows = rw left_lent at c.wide-m.ensures.0 in rw (arity-is, rows) in
+    let width_read : 2 + c.from-k.result + c.from-k.result * c.from-m.result ≡ width (drop c.loop-place.place c.args.rules.now) =
+    let arity-is = rw left_lent at c.from-k.ensures in
+    let rows = rw left_lent at c.from-m.ensures in
+    rw (arity-is, rows) in
     rw width_read (pass_rule c.loop-place.invariant c.loop-place-test.true c.if-left-eq0.false)
 
 pub returns : goal.returns

@@ -1,68 +1,56 @@
-use Prim.Native.Nat.{ℕ, ◌≤◌, ◌<◌}
-use mathlib.Core.Path.{◌≡◌, refl, sym}
-use mathlib.Core.Bool.{Bool, true, false}
+-- Up to the depth, or to the last feature where the depth lies behind it; nothing is asked from the depth on.
+use Prim.Native.Nat.{ℕ, zero, suc, ◌<◌, ◌≤◌, min}
+use mathlib.Core.Path.{◌≡◌, refl, ap, ◌∙◌}
+use mathlib.Core.Bool.{Bool, true, false, cond, ◌&&◌, and-true}
 use mathlib.Core.List.{List}
 use native.Mathlib.Omega.{arith}
-use borrow.Author.Tests.{ltb-true, lt-ltb, le-ltb}
+use borrow.Author.Tests.{ltb-true, ltb-false}
 use lib.Dec.{ltb}
 use lib.ListN.{length, get_or}
+use Rattle.std.proofs.Common.{rules, tests}
+use Rattle.std.proofs.lemmas.Iterator.{YieldsList-from_range}
+use Rattle.std.proofs.lemmas.Iterator.Search.{all_from_yields_List}
 use Rattle.builds.proofs.PlacedWalks.{get_d_within}
 use Rattle.builds.specs.Lists.{every_below}
 use Rattle.fit.specs.Inner.Trial.{placed_fits}
-use Rattle.search.proofs.FitsInWords.{every_below_lem, below_every}
-use Rattle.search.proofs.EveryBelow.{one_more, one_fails}
+use Rattle.fit.proofs.EveryFeature.{all_below, same_below}
 use Rattle.fit.proofs.record.placed_fit.Goals as goal
 
-module _ (sizes trial : List ℕ) (depth f : ℕ) where
-  -- nothing is asked from the depth on
-  up_to_depth : depth ≤ f → every_below f (placed_fits sizes depth trial) ≡ true
-      → every_below 16 (placed_fits sizes depth trial) ≡ true
-  up_to_depth deep passed =
-      below_every (placed_fits sizes depth trial) 16 (λ (k : ℕ) (l : k < 16). at k (ltb k depth) refl)
-    where
-      at : (k : ℕ) (placed : Bool) → ltb k depth ≡ placed → placed_fits sizes depth trial k ≡ true
-      at k true e =
-          let low : k < depth = ltb-true k depth e in
-          every_below_lem (placed_fits sizes depth trial) f passed k (omega arith)
-      at k false e = rw e refl
-
-  module _ (within : f < length trial) (placed : f < depth) where
-    an_option : get_or trial f 0 < get_or sizes f 0 → placed_fits sizes depth trial f ≡ true
-    an_option low =
-        rw (lt-ltb f depth placed, get_d_within trial f 255 0 within) (lt-ltb (get_or trial f 0) (get_or sizes f 0) low)
-
-    no_option : get_or sizes f 0 ≤ get_or trial f 0 → placed_fits sizes depth trial f ≡ false
-    no_option high =
-        rw (lt-ltb f depth placed, get_d_within trial f 255 0 within) (le-ltb (get_or trial f 0) (get_or sizes f 0) high)
-
-pub loop-f-init : goal.loop-f-init
+-- a test asked before a depth alone
+before_depth : (test : ℕ → Bool) (depth n : ℕ)
+    → every_below (min depth n) test ≡ every_below n (λ (f : ℕ). cond (ltb f depth) (test f) true)
 unfolding every_below
-loop-f-init c = (omega arith, refl)
+before_depth test depth zero = let count : min depth 0 ≡ 0 = omega arith in ap (λ (k : ℕ). every_below k test) count
+before_depth test depth (suc n) = go (before_depth test depth n) (ltb n depth) refl
+  where
+    go : every_below (min depth n) test ≡ every_below n (λ (f : ℕ). cond (ltb f depth) (test f) true)
+        → (placed : Bool) → ltb n depth ≡ placed
+        → every_below (min depth (suc n)) test ≡ (every_below n (λ (f : ℕ). cond (ltb f depth) (test f) true) && cond placed (test n) true)
+    go before true e =
+        let low : n < depth = ltb-true n depth e in
+        let count : min depth (suc n) ≡ suc n = omega arith in
+        let passed : min depth n ≡ n = omega arith in
+        rw (count, ← before, passed) refl
+    go before false e =
+        let deep : depth ≤ n = ltb-false n depth e in
+        let count : min depth (suc n) ≡ min depth n = omega arith in
+        rw (count, and-true) before
 
-pub returns-then-depth-f : goal.returns-then-depth-f
-returns-then-depth-f c =
-    let loop = c.loop-f in
-    let a = c.args in
-    sym (up_to_depth a.sizes.now a.trial.now a.depth loop.f c.if-depth-f.true loop.invariant.1)
+module _ (sizes trial : List ℕ) (depth : ℕ) where
+  -- the test as the code reads an entry
+  abbrev entry_read : ℕ → Bool
+  entry_read f = ltb (get_or trial f 0) (get_or sizes f 0)
 
-pub returns-then-size_at-trial : goal.returns-then-size_at-trial
-returns-then-size_at-trial c =
-    let f = c.loop-f.f in
-    let a = c.args in
-    let high : get_or a.sizes.now f 0 ≤ get_or a.trial.now f 0 =
-    rw (← c.size_at.ensures) c.if-size_at-trial.true in
-    sym
-    (one_fails _ 16 f (omega arith)
-    (no_option a.sizes.now a.trial.now a.depth f (omega arith) c.if-depth-f.false high))
+  read_alike : 16 ≤ length trial → every_below (min depth 16) entry_read ≡ every_below 16 (placed_fits sizes depth trial)
+  read_alike long =
+      before_depth entry_read depth 16
+      ∙ same_below (λ (f : ℕ). cond (ltb f depth) (entry_read f) true) (placed_fits sizes depth trial) 16
+      (λ (f : ℕ) (l : f < 16). rw (get_d_within trial f 0 255 (omega arith)) refl)
 
-pub loop-f-preserved : goal.loop-f-preserved
-loop-f-preserved c =
-    let loop = c.loop-f in
+pub returns : goal.returns
+returns c =
     let a = c.args in
-    let low : get_or a.trial.now loop.f 0 < get_or a.sizes.now loop.f 0 =
-    rw (← c.size_at.ensures) c.if-size_at-trial.false in (
-      omega arith,
-      one_more _ loop.f loop.invariant.1
-          (an_option a.sizes.now a.trial.now a.depth loop.f (omega arith)
-          c.if-depth-f.false low),
-    )
+    all_from_yields_List (entry_read a.sizes.now a.trial.now a.depth) _ _ _ c.all.ensures.ran
+    (YieldsList-from_range 0 c.min.result (min a.depth 16) refl (omega arith)) (λ x b q k. search (rules, tests))
+    ∙ all_below (entry_read a.sizes.now a.trial.now a.depth) (min a.depth 16)
+    ∙ read_alike a.sizes.now a.trial.now a.depth (omega arith)

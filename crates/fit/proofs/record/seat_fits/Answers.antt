@@ -1,12 +1,11 @@
 -- The last rule broken decides, or what the state asks, or what every state asks; a closed seat is empty, and choices, masks
 -- and alternatives that are empty fit.
-use Prim.Native.Nat.{ℕ, zero, suc, ◌<◌, ◌^◌}
+use Prim.Native.Nat.{ℕ, ◌<◌, ◌^◌}
 use mathlib.Core.Path.{◌≡◌, refl, sym, ap, ◌∙◌}
 use mathlib.Core.Bool.{Bool, true, false, ◌&&◌, and-eq-true_iff}
 use mathlib.Core.List.{List}
 use native.Mathlib.Omega.{arith}
-use borrow.Author.Rules.{rules}
-use borrow.Author.Tests.{not-true, not-false, eqb-true, eqb-false, lt-ltb, le-ltb}
+use borrow.Author.Tests.{eqb-true, eqb-false, lt-ltb, le-ltb}
 use lib.ListN.{get_or}
 use lib.Dec.{eqb, ltb}
 use lib.Pow.{pow_pos}
@@ -19,6 +18,7 @@ use Rattle.builds.specs.Lists.{every_below}
 use Rattle.search.specs.RecordFits.{choice_fits, mask_fits, alternatives_fit, entry_fits, empty_at, depth_of, state_fits, broken_fits, seat_fits}
 use Rattle.search.proofs.FitsInWords.{every_below_lem, below_every}
 use Rattle.fit.specs.Inner.Masks.{no_bit}
+use Rattle.fit.proofs.EveryFeature.{same_below}
 use Rattle.fit.proofs.record.seat_fits.Goals as goal
 
 and_off : (others trial rule : Bool) → (others && false && trial && rule) ≡ false
@@ -42,12 +42,6 @@ below_one mask = go (eqb mask 0) refl
     go : (none : Bool) → eqb mask 0 ≡ none → ltb mask 1 ≡ none
     go true e = lt-ltb mask 1 (omega (arith, eqb-true mask 0 e))
     go false e = le-ltb mask 1 (omega (arith, eqb-false mask 0 e))
-
-same_below : (test other : ℕ → Bool) (n : ℕ) → ((k : ℕ) → k < n → test k ≡ other k) → every_below n test ≡ every_below n other
-unfolding every_below
-same_below test other zero same = refl
-same_below test other (suc n) same =
-    rw (same_below test other n (λ (k : ℕ) (l : k < n). same k (omega arith)), same n (omega arith)) refl
 
 module _ (sizes choices masks : List ℕ) (empty : every_below 16 (empty_at choices masks) ≡ true) where
   empty_at_lem : (f : ℕ) → f < 16 → (eqb (get_or choices f 255) 255 ≡ true) × (eqb (get_or masks f 0) 0 ≡ true)
@@ -113,60 +107,53 @@ closed_left catalogue seat at rule_fits empty =
     )
     at (state_on catalogue seat Closed at rule_fits empty)
 
+-- a closed seat that has a choice or an option left doesn't fit
+closed_whole : (catalogue : Catalogue) (seat : Seat) → seat.state ≡ Closed → rule_at catalogue seat ≡ true
+    → (empty : Bool) → every_below 16 (empty_at seat.choices seat.masks) ≡ empty
+    → (empty && every_below 16 (no_bit seat.alternatives) && every_below 16 (entry_fits catalogue.sizes 0 seat.trial))
+    ≡ seat_fits catalogue seat
+closed_whole catalogue seat at rule_fits true e = sym (closed_left catalogue seat at rule_fits e)
+closed_whole catalogue seat at rule_fits false e = sym (state_off catalogue seat Closed at e)
+
 pub broken_fits-requires : goal.broken_fits-requires
 broken_fits-requires c = fault_whole (catalogue_of c.args.sizes.now c.args.rules.now) c.requires
 
 pub returns-then-not-broken_fits : goal.returns-then-not-broken_fits
 unfolding rules_of
-returns-then-not-broken_fits c = sym (rule_off (catalogue_of c.args.sizes.now c.args.rules.now) c.args.seat (sym c.broken_fits.ensures ∙ not-true _ c.if-not-broken_fits.true-raw))
-
-pub returns-then-not-all_empty : goal.returns-then-not-all_empty
-returns-then-not-all_empty c =
-    sym
-    (state_off (catalogue_of c.args.sizes.now c.args.rules.now) c.args.seat Closed c.in-Closed.is
-    (sym c.all_empty.ensures ∙ not-true _ c.if-not-all_empty.true-raw))
-
-pub returns-then-not-none_set : goal.returns-then-not-none_set
-unfolding rules_of
-returns-then-not-none_set c =
-    let rule_fits_so : rule_at (catalogue_of c.args.sizes.now c.args.rules.now) c.args.seat ≡ true = sym c.broken_fits.ensures ∙ not-false _ c.if-not-broken_fits.false-raw in
-    let left_so : seat_fits (catalogue_of c.args.sizes.now c.args.rules.now) c.args.seat ≡ (every_below 16 (no_bit c.args.seat.alternatives) && every_below 16 (entry_fits c.args.sizes.now 0 c.args.seat.trial)) = closed_left (catalogue_of c.args.sizes.now c.args.rules.now) c.args.seat c.in-Closed.is rule_fits_so
-    (sym c.all_empty.ensures ∙ not-false _ c.if-not-all_empty.false-raw) in
-    rw (sym c.none_set.ensures ∙ not-true _ c.if-not-none_set.true-raw) at (sym left_so)
+returns-then-not-broken_fits c =
+    sym (rule_off (catalogue_of c.args.sizes.now c.args.rules.now) c.args.seat (sym c.broken_fits.ensures ∙ c.if-not-broken_fits.true))
 
 pub open_fits-requires : goal.open_fits-requires
-open_fits-requires c = (search rules, search rules, search rules, search rules, (fault_zero (catalogue_of c.args.sizes.now c.args.rules.now) c.requires).sizes_fit)
+open_fits-requires c = (fault_zero (catalogue_of c.args.sizes.now c.args.rules.now) c.requires).sizes_fit
 
-pub returns-then-not-place_fits : goal.returns-then-not-place_fits
-returns-then-not-place_fits c =
-    sym
-    (state_off (catalogue_of c.args.sizes.now c.args.rules.now) c.args.seat (AtWork c.in-AtWork.place) c.in-AtWork.is
-    (sym c.place_fits.ensures ∙ not-true _ c.if-not-place_fits.true-raw))
+pub open_fits-requires-then-place_fits : goal.open_fits-requires-then-place_fits
+open_fits-requires-then-place_fits c = (fault_zero (catalogue_of c.args.sizes.now c.args.rules.now) c.requires).sizes_fit
 
-pub open_fits-requires-in-AtWork : goal.open_fits-requires-in-AtWork
-open_fits-requires-in-AtWork c = (search rules, search rules, search rules, search rules, (fault_zero (catalogue_of c.args.sizes.now c.args.rules.now) c.requires).sizes_fit)
-
-pub returns-else-not-none_set : goal.returns-else-not-none_set
+pub returns-in-Closed : goal.returns-in-Closed
 unfolding rules_of
-returns-else-not-none_set c =
-    let rule_fits_so : rule_at (catalogue_of c.args.sizes.now c.args.rules.now) c.args.seat ≡ true = sym c.broken_fits.ensures ∙ not-false _ c.if-not-broken_fits.false-raw in
-    let left_so : seat_fits (catalogue_of c.args.sizes.now c.args.rules.now) c.args.seat ≡ (every_below 16 (no_bit c.args.seat.alternatives) && every_below 16 (entry_fits c.args.sizes.now 0 c.args.seat.trial)) = closed_left (catalogue_of c.args.sizes.now c.args.rules.now) c.args.seat c.in-Closed.is rule_fits_so
-    (sym c.all_empty.ensures ∙ not-false _ c.if-not-all_empty.false-raw) in
-    let empty = sym c.none_set.ensures ∙ not-false _ c.if-not-none_set.false-raw in
-    c.trial_fits.ensures ∙ sym (rw empty at left_so)
+returns-in-Closed c =
+    c.closed_fits.ensures
+    ∙ closed_whole (catalogue_of c.args.sizes.now c.args.rules.now) c.args.seat c.in-Closed.is
+    (sym c.broken_fits.ensures ∙ c.if-not-broken_fits.false) _ refl
 
 pub returns-in-Ready : goal.returns-in-Ready
 unfolding rules_of
 returns-in-Ready c =
-    let rule_fits_so : rule_at (catalogue_of c.args.sizes.now c.args.rules.now) c.args.seat ≡ true = sym c.broken_fits.ensures ∙ not-false _ c.if-not-broken_fits.false-raw in
     c.open_fits.ensures
-    ∙ sym (state_on (catalogue_of c.args.sizes.now c.args.rules.now) c.args.seat Ready c.in-Ready.is rule_fits_so refl)
+    ∙ sym (state_on (catalogue_of c.args.sizes.now c.args.rules.now) c.args.seat Ready c.in-Ready.is
+    (sym c.broken_fits.ensures ∙ c.if-not-broken_fits.false) refl)
 
-pub returns-else-not-place_fits : goal.returns-else-not-place_fits
+pub returns-then-place_fits : goal.returns-then-place_fits
 unfolding rules_of
-returns-else-not-place_fits c =
-    let rule_fits_so : rule_at (catalogue_of c.args.sizes.now c.args.rules.now) c.args.seat ≡ true = sym c.broken_fits.ensures ∙ not-false _ c.if-not-broken_fits.false-raw in
-    c.open_fits-in-AtWork.ensures
-    ∙ sym
-    (state_on (catalogue_of c.args.sizes.now c.args.rules.now) c.args.seat (AtWork c.in-AtWork.place) c.in-AtWork.is rule_fits_so
-    (sym c.place_fits.ensures ∙ not-false _ c.if-not-place_fits.false-raw))
+returns-then-place_fits c =
+    let catalogue = catalogue_of c.args.sizes.now c.args.rules.now in
+    let depth : c.from.result ≡ c.in-AtWork.place.depth = c.from.ensures in
+    (rw depth at c.open_fits-then-place_fits.ensures)
+    ∙ sym (state_on catalogue c.args.seat (AtWork c.in-AtWork.place) c.in-AtWork.is
+    (sym c.broken_fits.ensures ∙ c.if-not-broken_fits.false) (sym c.place_fits.ensures ∙ c.if-place_fits.true))
+
+pub returns-else-place_fits : goal.returns-else-place_fits
+returns-else-place_fits c =
+    c.if-place_fits.false
+    ∙ sym (state_off (catalogue_of c.args.sizes.now c.args.rules.now) c.args.seat (AtWork c.in-AtWork.place) c.in-AtWork.is
+    (sym c.place_fits.ensures ∙ c.if-place_fits.false))

@@ -4,7 +4,6 @@ use Prim.Native.Nat.{ℕ, zero, suc}
 use mathlib.Core.Path.{◌≡◌, refl, sym, ◌∙◌}
 use mathlib.Core.Bool.{Bool, true, false, cond, ◌&&◌, and-true, and-false}
 use mathlib.Core.List.{List}
-use borrow.Author.Tests.{not-true, not-false}
 use lib.Dec.{ltb, eqb}
 use lib.ListN.{get_or}
 use Rattle.builds.specs.Lists.{every_below}
@@ -31,19 +30,12 @@ halves sizes trial depth (suc n) =
     (one_entry (ltb n depth) (every_below n (rest_fits depth trial)) (every_below n (placed_fits sizes depth trial))
     (ltb (get_or trial n 255) (get_or sizes n 0)) (eqb (get_or trial n 255) 255))
 
-pub returns-then-not-rest_empty : goal.returns-then-not-rest_empty
-returns-then-not-rest_empty c =
+pub returns-then-rest_empty : goal.returns-then-rest_empty
+returns-then-rest_empty c =
     let a = c.args in
-    rw (
-      halves a.sizes.now a.trial.now a.depth 16,
-      sym c.rest_empty.ensures ∙ not-true _ c.if-not-rest_empty.true-raw,
-    )
+    rw (halves a.sizes.now a.trial.now a.depth 16, sym c.rest_empty.ensures ∙ c.if-rest_empty.true) c.placed_fit.ensures
 
-pub returns : goal.returns
-returns c =
+pub returns-else-rest_empty : goal.returns-else-rest_empty
+returns-else-rest_empty c =
     let a = c.args in
-    rw (
-      halves a.sizes.now a.trial.now a.depth 16,
-      sym c.rest_empty.ensures ∙ not-false _ c.if-not-rest_empty.false-raw,
-    )
-    c.placed_fit.ensures
+    rw (halves a.sizes.now a.trial.now a.depth 16, sym c.rest_empty.ensures ∙ c.if-rest_empty.false) c.if-rest_empty.false

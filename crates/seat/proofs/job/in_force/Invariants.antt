@@ -1,5 +1,4 @@
 -- The entries before the index are the bits of the choices there.
-use Prim.Native.Nat.{◌-◌, ◌≤◌}
 use mathlib.Core.Path.{◌≡◌}
 use mathlib.Core.List.{map}
 use lib.ListN.{length, take}
@@ -7,7 +6,4 @@ use Rattle.search.specs.Clinic.{in_force}
 use Rattle.seat.proofs.job.in_force.Given as goal
 
 abbrev pub invariant-loop-f : goal.invariant-loop-f
-invariant-loop-f l = (l.f ≤ 16) × (length l.bits ≡ 16) × (take l.f l.bits ≡ take l.f (map in_force l.choices))
-
-abbrev pub decreases-loop-f : goal.decreases-loop-f
-decreases-loop-f l = 16 - l.f
+invariant-loop-f l = (length l.bits ≡ 16) × (take l.f l.bits ≡ take l.f (map in_force l.choices))

@@ -7,7 +7,8 @@ unfolding posted
 returns c =
     rw (
       c.in_force.ensures,
-      c.started-state.ensures,
+      c.started.ensures,
+      c.closed.ensures,
       c.empty.ensures,
       c.requires.lent_whole.0,
     )

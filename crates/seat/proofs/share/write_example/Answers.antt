@@ -7,4 +7,4 @@ use Rattle.seat.proofs.share.write_example.Goals as goal
 
 pub returns : goal.returns
 unfolding put
-returns c = rw (c.copy.ensures, Post-is c.args.place (c.args.place + 16) c.args.share.now (omega arith), c.requires.0)
+returns c = rw (c.copy_from_slice.ensures.after, Post-is c.args.place (c.args.place + 16) c.args.share.now (omega arith), c.requires.0)
