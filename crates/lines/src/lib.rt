@@ -13,5 +13,5 @@ pub use incoming::{LONGEST, TYPED, append, asked_to_stop, is_person, read_some};
 pub use lent::{byte, fill, put_rules, put_sizes, set_byte};
 pub use reading::{Stretch, at, between, end_of, first, least, read_numbers, same};
 pub use writing::{
-    around, counted, entries, hexadecimal, number, report, report_number, say, spaced, text,
+    Spaced, around, counted, entries, hexadecimal, number, report, report_number, text,
 };

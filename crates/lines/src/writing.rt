@@ -8,16 +8,23 @@ pub fn text(console: &Console, words: &[u8]) {
     note(console, console.output.write_all(words));
 }
 
-pub fn say<T: Display + Drop>(console: &Console, words: T) {
-    note(console, console.output.print(words));
+// What `print!` and `println!` call.
+impl Console {
+    pub fn print<T: Display + Drop>(&self, words: T) {
+        note(self, self.output.print(words));
+    }
+
+    pub fn println<T: Display + Drop>(&self, words: T) {
+        note(self, self.output.println(words));
+    }
 }
 
 pub fn number(console: &Console, n: u64) {
-    say(console, n);
+    console.print(n);
 }
 
 pub fn hexadecimal(console: &Console, n: u64) {
-    say(console, format_args!("{n:016x}"));
+    print!(console; "{n:016x}");
 }
 
 // What could not be written is lost, and is reported.
@@ -52,7 +59,7 @@ pub fn around(console: &Console, before: &[u8], n: u64, after: &[u8]) {
 
 // So many of something: `1 rule`, `2 rules`.
 pub fn counted(console: &Console, n: u64, what: &[u8]) {
-    say(console, format_args!("{n} "));
+    print!(console; "{n} ");
     text(console, what);
     if n != 1 {
         text(console, b"s");
@@ -61,34 +68,32 @@ pub fn counted(console: &Console, n: u64, what: &[u8]) {
 
 // Bytes with a blank before each; `-` stands for 255.
 pub fn entries(console: &Console, all: &[u8]) {
-    say(
-        console,
-        Numbers {
-            list: all,
-            none: Some(255),
-        },
-    );
-}
-
-// Numbers with a blank before each.
-pub fn spaced<T: Copy + PartialEq + Display>(console: &Console, all: &[T]) {
-    say(
-        console,
-        Numbers {
-            list: all,
-            none: None,
-        },
-    );
+    console.print(Spaced::entries(all));
 }
 
 // Numbers as they stand in a line: a blank before each, and `-` for the one that means none.
 #[derive(Clone, Copy)]
-struct Numbers<'a, T> {
+pub struct Spaced<'a, T> {
     list: &'a [T],
     none: Option<T>,
 }
 
-impl<'a, T: Copy + PartialEq + Display> Display for Numbers<'a, T> {
+impl<'a, T> Spaced<'a, T> {
+    pub fn all(list: &'a [T]) -> Spaced<'a, T> {
+        Spaced { list, none: None }
+    }
+}
+
+impl<'a> Spaced<'a, u8> {
+    pub fn entries(list: &'a [u8]) -> Spaced<'a, u8> {
+        Spaced {
+            list,
+            none: Some(255),
+        }
+    }
+}
+
+impl<'a, T: Copy + PartialEq + Display> Display for Spaced<'a, T> {
     fn fmt<W: fmt::Write>(&self, f: &mut Formatter<W>) -> fmt::Result {
         for number in self.list {
             if self.none == Some(*number) {

@@ -1,7 +1,7 @@
 // The words of an accepted call.
 use crate::refusal::{Asked, option_of_feature};
 use lines::commands::{CHOOSE, ENTER, LEAVE, OPEN};
-use lines::{Console, around, number, say, text};
+use lines::{Console, around, number, text};
 
 pub fn accepted(console: &Console, command: usize, asked: Asked) {
     let seat = asked.seat as u64;
@@ -29,21 +29,15 @@ pub fn beside(console: &Console, made: u16, working: bool) {
 
 pub fn turns_made(console: &Console, made: u16, working: bool) {
     let which = if working { "a" } else { "no" };
-    say(
-        console,
-        format_args!("{made} turns made, {which} seat is at work"),
-    );
+    print!(console; "{made} turns made, {which} seat is at work");
 }
 
 // Which rule the search of a seat ran into last; 255 is none.
 pub fn rule_met(console: &Console, seat: u32, rule: u8) {
     if rule == 255 {
-        say(console, format_args!("seat {seat} has run into no rule"));
+        print!(console; "seat {seat} has run into no rule");
     } else {
-        say(
-            console,
-            format_args!("seat {seat} last ran into rule {rule}"),
-        );
+        print!(console; "seat {seat} last ran into rule {rule}");
     }
 }
 
@@ -51,7 +45,7 @@ pub fn rule_met(console: &Console, seat: u32, rule: u8) {
 pub fn options_of(console: &Console, mask: u16) {
     for a in 0..16u16 {
         if mask >> a & 1 == 1 {
-            say(console, format_args!(" {a}"));
+            print!(console; " {a}");
         }
     }
 }

@@ -1,40 +1,47 @@
 // Looking at a seat's record and at a share of the board.
 ghost use Rattle.std.specs.Prelude.{◌≤◌};
 
-use crate::refusal::{Asked, option_of_feature};
-use lines::{Console, between, entries, say, spaced, text};
+use lines::{Console, Spaced, between};
 use search::{Place, Seat, State};
+use std::fmt;
+use std::fmt::{Display, Formatter};
 
 pub fn record(console: &Console, seat: Seat) {
-    match seat.state {
-        State::Closed => text(console, b"closed"),
-        State::Ready => text(console, b"ready"),
-        State::AtWork(place) => at_work_at(console, place),
-    }
-    text(console, b"; choices");
-    entries(console, &seat.choices);
-    text(console, b"; masks");
-    spaced(console, &seat.masks);
-    text(console, b"; alternatives");
-    spaced(console, &seat.alternatives);
-    text(console, b"; trial");
-    entries(console, &seat.trial);
-    text(console, b"; rule");
-    entries(console, &[seat.broken]);
-    text(console, b"\n");
+    let state = Standing(seat.state);
+    let choices = Spaced::entries(&seat.choices);
+    let masks = Spaced::all(&seat.masks);
+    let alternatives = Spaced::all(&seat.alternatives);
+    let trial = Spaced::entries(&seat.trial);
+    let broken = [seat.broken];
+    let rule = Spaced::entries(&broken);
+    print!(console; "{state}; choices{choices}; masks{masks}");
+    println!(console; "; alternatives{alternatives}; trial{trial}; rule{rule}");
 }
 
-fn at_work_at(console: &Console, place: Place) {
-    let Place {
-        feature,
-        option,
-        depth,
-        next,
-    } = place;
-    say(
-        console,
-        format_args!("at work at feature {feature} option {option} depth {depth} next {next}"),
-    );
+// A seat's state in words.
+#[derive(Clone, Copy)]
+struct Standing(State);
+
+impl Display for Standing {
+    fn fmt<W: fmt::Write>(&self, f: &mut Formatter<W>) -> fmt::Result {
+        match self.0 {
+            State::Closed => f.write_str("closed"),
+            State::Ready => f.write_str("ready"),
+            State::AtWork(
+                Place {
+                    feature,
+                    option,
+                    depth,
+                    next,
+                },
+            ) => {
+                write!(
+                    f,
+                    "at work at feature {feature} option {option} depth {depth} next {next}"
+                )
+            }
+        }
+    }
 }
 
 // How far a seat at work is: which pair, counted from 1, of how many.
@@ -43,7 +50,7 @@ pub fn pair(console: &Console, seat: Seat, sizes: &[u8]) {
         let before = sum(between(sizes, 0, usize::from(place.feature)));
         let pair = before.wrapping_add(u64::from(place.option)).wrapping_add(1);
         let pairs = sum(sizes);
-        say(console, format_args!("pair {pair} of {pairs}"));
+        print!(console; "pair {pair} of {pairs}");
     }
 }
 
@@ -67,22 +74,19 @@ pub fn named_at_work(console: &Console, seat: Seat, c: usize) -> u64
     if !look::is_at_work(seat) {
         return 0;
     }
-    say(console, format_args!(" {c}"));
+    print!(console; " {c}");
     1
 }
 
 pub fn share(console: &Console, board: &[u8], seat: u32) {
     let length = board.len();
     if length != 32768 {
-        say(
-            console,
-            format_args!("the board has {length} bytes, so no shares\n"),
-        );
+        println!(console; "the board has {length} bytes, so no shares");
         return;
     }
     let from = (seat % 8) as usize * 4096;
     let count = examples(console, &board[from..from + 4096]);
-    say(console, format_args!("share {seat}: {count} examples\n"));
+    println!(console; "share {seat}: {count} examples");
 }
 
 // A line for each example; answers how many there are.
@@ -102,10 +106,6 @@ fn examples(console: &Console, share: &[u8]) -> usize {
 fn example(console: &Console, k: usize, bytes: &[u8]) {
     let feature = k / 16;
     let option = k % 16;
-    say(
-        console,
-        format_args!("option {option} of feature {feature}:"),
-    );
-    entries(console, bytes);
-    text(console, b"\n");
+    let entries = Spaced::entries(bytes);
+    println!(console; "option {option} of feature {feature}:{entries}");
 }

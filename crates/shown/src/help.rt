@@ -1,5 +1,5 @@
 // What the console says of itself.
-use lines::{Console, say};
+use lines::Console;
 
 const START: &str = "Nethazel: a configurator desk for eight clinics. Each sits at a seat, 0 to 7,
 chooses options of a product, and sees exactly the options that still fit some
@@ -62,9 +62,9 @@ commas between.
 
 // For a person who has just sat down.
 pub fn start(console: &Console) {
-    say(console, START);
+    console.print(START);
 }
 
 pub fn help(console: &Console) {
-    say(console, HELP);
+    console.print(HELP);
 }

@@ -1,5 +1,5 @@
 // The words of a refusal.
-use lines::{Console, say, text};
+use lines::{Console, text};
 
 // What the numbers of a call were.
 #[derive(Clone, Copy)]
@@ -18,7 +18,7 @@ pub struct Lengths {
 }
 
 pub fn refused(console: &Console, refusal: u8, lengths: Lengths, asked: Asked) {
-    say(console, format_args!("refused {refusal}: "));
+    print!(console; "refused {refusal}: ");
     if refusal < 30 {
         words_of_room(console, refusal, lengths);
     } else {
@@ -34,32 +34,17 @@ pub fn words_of_room(console: &Console, refusal: u8, lengths: Lengths) {
         rules,
     } = lengths;
     match refusal {
-        1 => say(
-            console,
-            format_args!("the board has {board} bytes, not 32768"),
-        ),
-        10 => say(
-            console,
-            format_args!("the catalogue has {sizes} features, not 1 to 16"),
-        ),
-        11 => say(console, "a size is 0 or above 16"),
-        12 => say(
-            console,
-            format_args!("the rule list has {rules} numbers, above 8192"),
-        ),
-        13 => say(console, "numbers remain after 64 rules"),
-        14 => say(console, "the rule list ends within a rule"),
-        15 => say(console, "the arity of a rule is 0 or above 6"),
-        16 => say(
-            console,
-            "a rule names a feature that is not in the catalogue",
-        ),
-        17 => say(console, "a rule names a feature twice"),
-        18 => say(
-            console,
-            "a row has an option that is not below its feature's size",
-        ),
-        20 => say(console, "the desk does not fit the catalogue"),
+        1 => print!(console; "the board has {board} bytes, not 32768"),
+        10 => print!(console; "the catalogue has {sizes} features, not 1 to 16"),
+        11 => print!(console; "a size is 0 or above 16"),
+        12 => print!(console; "the rule list has {rules} numbers, above 8192"),
+        13 => print!(console; "numbers remain after 64 rules"),
+        14 => print!(console; "the rule list ends within a rule"),
+        15 => print!(console; "the arity of a rule is 0 or above 6"),
+        16 => print!(console; "a rule names a feature that is not in the catalogue"),
+        17 => print!(console; "a rule names a feature twice"),
+        18 => print!(console; "a row has an option that is not below its feature's size"),
+        20 => print!(console; "the desk does not fit the catalogue"),
         _ => {}
     }
 }
@@ -71,18 +56,15 @@ fn of_seat(console: &Console, refusal: u8, asked: Asked) {
         option,
     } = asked;
     match refusal {
-        30 => say(console, format_args!("there is no seat {seat}")),
-        31 => say(console, format_args!("seat {seat} is closed")),
-        32 => say(console, format_args!("seat {seat} is open")),
-        33 => say(console, format_args!("seat {seat} is at work")),
-        34 => say(console, format_args!("there is no feature {feature}")),
-        35 => say(
-            console,
-            format_args!("feature {feature} has no option {option}"),
-        ),
-        36 => say(console, format_args!("feature {feature} has a choice")),
+        30 => print!(console; "there is no seat {seat}"),
+        31 => print!(console; "seat {seat} is closed"),
+        32 => print!(console; "seat {seat} is open"),
+        33 => print!(console; "seat {seat} is at work"),
+        34 => print!(console; "there is no feature {feature}"),
+        35 => print!(console; "feature {feature} has no option {option}"),
+        36 => print!(console; "feature {feature} has a choice"),
         37 => option_of_feature(console, asked, b" is not left"),
-        38 => say(console, format_args!("feature {feature} has no choice")),
+        38 => print!(console; "feature {feature} has no choice"),
         _ => {}
     }
 }
@@ -93,9 +75,6 @@ pub fn option_of_feature(console: &Console, asked: Asked, after: &[u8]) {
         option,
         ..
     } = asked;
-    say(
-        console,
-        format_args!("option {option} of feature {feature}"),
-    );
+    print!(console; "option {option} of feature {feature}");
     text(console, after);
 }

@@ -1,8 +1,8 @@
 // A catalogue in columns: what a line begins with takes 8 bytes, each number 4.
 use crate::faults::fault;
-use crate::lists::{column, columns};
+use crate::lists::Columns;
 use crate::met::{Met, arity, cut, features_and_rows, first_rule, meet, row_count};
-use lines::{Console, counted, say, text};
+use lines::{Console, counted, text};
 
 // The features, the rules that stand before the fault met first, and that fault.
 pub fn catalogue(console: &Console, sizes: &[u8], rules: &[u16]) {
@@ -13,8 +13,7 @@ pub fn catalogue(console: &Console, sizes: &[u8], rules: &[u16]) {
     text(console, b"\nfeature ");
     first_numbers(console, sizes.len());
     text(console, b"\noptions ");
-    columns(console, sizes);
-    text(console, b"\n");
+    println!(console; "{}", Columns(sizes));
     first_rules(console, found);
     if let Some(number) = found.fault {
         fault(console, number, found);
@@ -24,7 +23,7 @@ pub fn catalogue(console: &Console, sizes: &[u8], rules: &[u16]) {
 
 fn first_numbers(console: &Console, count: usize) {
     for i in 0..count {
-        column(console, i);
+        print!(console; "{i:>4}");
     }
 }
 
@@ -40,11 +39,9 @@ fn first_rules(console: &Console, found: Met) {
 fn write_rule(console: &Console, i: usize, rule: &[u16]) {
     let (features, rows) = features_and_rows(rule);
     let count = row_count(rule);
-    say(console, format_args!("rule {i}: "));
+    print!(console; "rule {i}: ");
     counted(console, count as u64, b"row");
-    text(console, b"\nfeature ");
-    columns(console, features);
-    text(console, b"\n");
+    println!(console; "\nfeature {}", Columns(features));
     write_rows(console, rows, arity(rule), count);
 }
 
@@ -52,9 +49,7 @@ fn write_rows(console: &Console, rows: &[u16], k: usize, count: usize) {
     let mut rest = rows;
     for i in 0..count {
         let (row, after) = cut(rest, k);
-        say(console, format_args!("row {i:<4}"));
-        columns(console, row);
-        text(console, b"\n");
+        println!(console; "row {i:<4}{}", Columns(row));
         rest = after;
     }
 }

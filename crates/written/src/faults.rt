@@ -1,7 +1,7 @@
 // The lines that answer new sizes and new rules: how many numbers, and what they make or which fault they have. Both answer
 // whether there is none.
 use crate::met::{Met, feature_met, first_rule, meet, row_met};
-use lines::{Console, counted, say, text};
+use lines::{Console, counted, text};
 use shown::{Lengths, words_of_room};
 
 // The sizes are looked at alone, as if there were no rule.
@@ -32,7 +32,7 @@ fn made_or_fault(console: &Console, found: Met, count: usize, what: &[u8]) -> bo
 
 // A fault, where it was met, and its words.
 pub fn fault(console: &Console, number: u8, found: Met) {
-    say(console, format_args!("fault {number}"));
+    print!(console; "fault {number}");
     place(console, number, found);
     text(console, b": ");
     words_of_room(
@@ -51,13 +51,13 @@ fn place(console: &Console, number: u8, found: Met) {
     match number {
         11 => {
             let feature = feature_met(found.sizes);
-            say(console, format_args!(" in feature {feature}"));
+            print!(console; " in feature {feature}");
         }
-        14..=17 => say(console, format_args!(" in rule {rule}")),
+        14..=17 => print!(console; " in rule {rule}"),
         18 => {
             let (broken, _) = first_rule(found.rest);
             let row = row_met(found.sizes, broken);
-            say(console, format_args!(" in rule {rule}, row {row}"));
+            print!(console; " in rule {rule}, row {row}");
         }
         _ => {}
     }

@@ -1,23 +1,24 @@
 // Lists of numbers, in a line as they can be given back or in columns.
-use lines::{Console, say, spaced, text};
-use std::fmt::Display;
+use lines::{Console, Spaced};
+use std::fmt;
+use std::fmt::{Display, Formatter};
 
 // The lines that give a catalogue back.
 pub fn numbers(console: &Console, sizes: &[u8], rules: &[u16]) {
-    text(console, b"sizes");
-    spaced(console, sizes);
-    text(console, b"\nrules");
-    spaced(console, rules);
-    text(console, b"\n");
+    let sizes = Spaced::all(sizes);
+    let rules = Spaced::all(rules);
+    println!(console; "sizes{sizes}\nrules{rules}");
 }
 
 // Numbers in columns of four bytes.
-pub fn columns<T: Display>(console: &Console, list: &[T]) {
-    for n in list {
-        column(console, n);
-    }
-}
+#[derive(Clone, Copy)]
+pub struct Columns<'a, T>(pub &'a [T]);
 
-pub fn column<T: Display + Drop>(console: &Console, n: T) {
-    say(console, format_args!("{n:>4}"));
+impl<'a, T: Display> Display for Columns<'a, T> {
+    fn fmt<W: fmt::Write>(&self, f: &mut Formatter<W>) -> fmt::Result {
+        for n in self.0 {
+            write!(f, "{n:>4}")?;
+        }
+        Ok(())
+    }
 }

@@ -114,6 +114,8 @@ pub fn row_met(sizes: &[u8], rule: &[u16]) -> usize {
 
 // Whether an option of a row is not below its feature's size.
 fn is_too_great(sizes: &[u8], features: &[u16], row: &[u16]) -> bool {
-    features.iter().zip(row).any(|(feature, option)| u16::from(at(sizes, usize::from(*feature)))
-        <= *option)
+    features.iter().zip(row).any(|(feature, option)| {
+        let size = at(sizes, usize::from(*feature));
+        u16::from(size) <= *option
+    })
 }
