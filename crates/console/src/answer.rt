@@ -1,7 +1,7 @@
 // One line and its answer.
 use lines::commands::{EXIT, Form, MORE, NONE, QUIT, SET_BYTE, command_of, takes, write_form};
 use lines::{
-    Console, Numbers, Stretch, at, between, end_of, first, least, read_numbers, report_number,
+    Console, Stretch, at, between, end_of, first, least, read_numbers, report_number,
     same, text,
 };
 use room::{Room, obey};
@@ -120,8 +120,8 @@ fn read_words(console: &Console, room: Room, line: &[u8], numbers: &mut [u32]) -
 fn read_command(room: Room, form: Form, rest: &[u8], numbers: &mut [u32]) -> Line {
     let found = read_numbers(rest, numbers);
     match found {
-        Numbers::Wrong => Line::Misused(form),
-        Numbers::Count(count) => {
+        None => Line::Misused(form),
+        Some(count) => {
             if !takes(form, first(numbers, count)) {
                 return Line::Misused(form);
             }

@@ -47,6 +47,7 @@ fn stops(rt: &HostRuntime) -> Option<File> {
 
 // The same file under a number above 9. What is opened takes the least that is free: that may be the number of a standard
 // stream that is closed, and what is written there would come to this file.
+// Stays: a `for` is no plainer: it would have to keep all the copies open, or the next one took the same number again.
 fn raised(file: File, turns: u8) -> Option<File> {
     if 9 < file.as_raw_fd() {
         return Some(file);

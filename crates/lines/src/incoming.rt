@@ -1,5 +1,6 @@
 // A line as it comes in.
 use crate::console::Console;
+use crate::lent::put;
 use crate::writing::report;
 use std::io::{IsTerminal, Read};
 
@@ -22,16 +23,11 @@ pub fn read_some<R: Read>(console: &Console, from: &mut R, chunk: &mut [u8]) -> 
 // Whether the program that runs the console asks it to stop. Takes what is there.
 pub fn asked_to_stop(console: &Console) -> bool {
     let mut bytes = [0u8; 64];
-    match &console.stops {
-        Some(file) => {
-            let mut from = file;
-            match from.read(&mut bytes) {
-                Ok(count) => 0 < count,
-                Err(_) => false,
-            }
-        }
-        None => false,
-    }
+    let Some(file) = &console.stops else {
+        return false;
+    };
+    let mut from = file;
+    from.read(&mut bytes).is_ok_and(|count| 0 < count)
 }
 
 // Whether a person types: standard input and what is written are a terminal's.
@@ -41,15 +37,9 @@ pub fn is_person(console: &Console) -> bool {
 
 // Bytes put to the end of a line; answers its length.
 pub fn append(line: &mut [u8], length: usize, bytes: &[u8]) -> usize {
-    let mut to = length;
-    let mut i = 0usize;
-    while i < bytes.len() {
-        if line.len() <= to {
-            return LONGEST + 1;
-        }
-        line[to] = bytes[i];
-        to += 1;
-        i += 1;
+    let to = put(line, length, bytes, |byte| byte);
+    if to - length < bytes.len() {
+        return LONGEST + 1;
     }
     to
 }

@@ -11,7 +11,7 @@ mod writing;
 pub use console::Console;
 pub use incoming::{LONGEST, TYPED, append, asked_to_stop, is_person, read_some};
 pub use lent::{byte, fill, put_rules, put_sizes, set_byte};
-pub use reading::{Numbers, Stretch, at, between, end_of, first, least, read_numbers, same};
+pub use reading::{Stretch, at, between, end_of, first, least, read_numbers, same};
 pub use writing::{
-    around, counted, entries, hexadecimal, masks, number, report, report_number, text,
+    Spaced, around, counted, entries, hexadecimal, number, report, report_number, text,
 };

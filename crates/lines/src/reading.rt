@@ -1,17 +1,16 @@
-// Words and numbers in bytes. Every place is held to the bytes that are there, so no caller has to show that it is.
+// Words and numbers in bytes. Every place is held to what is there, so no caller has to show that it is.
 ghost use Rattle.std.specs.Prelude.{◌≤◌, length};
 
 pub fn least(a: usize, b: usize) -> usize
     ensures { (result ≤ a) × (result ≤ b) }
 {
-    if a < b { a } else { b }
+    a.min(b)
 }
 
-// The bytes from one place up to another.
-pub fn between(all: &[u8], from: usize, to: usize) -> &[u8] {
-    let end = least(to, all.len());
-    let start = least(from, end);
-    &all[start..end]
+// What stands from one place up to another.
+pub fn between<T>(all: &[T], from: usize, to: usize) -> &[T] {
+    let end = to.min(all.len());
+    &all[from.min(end)..end]
 }
 
 // What a stretch of bytes is made of.
@@ -22,125 +21,66 @@ pub enum Stretch {
     Line,
 }
 
-fn goes_on(stretch: Stretch, byte: u8) -> bool {
-    match stretch {
-        Stretch::Blanks => is_blank(byte),
-        Stretch::Word => !is_blank(byte),
-        Stretch::Line => byte != b'\n',
+impl Stretch {
+    fn has(self, byte: u8) -> bool {
+        match self {
+            Stretch::Blanks => is_blank(byte),
+            Stretch::Word => !is_blank(byte),
+            Stretch::Line => byte != b'\n',
+        }
     }
 }
 
 fn is_blank(byte: u8) -> bool {
-    match byte {
-        b' ' | b'\t' | b',' | b'\r' => true,
-        _ => false,
-    }
+    matches!(byte, b' ' | b'\t' | b',' | b'\r')
 }
 
 // Where a stretch that begins at `from` ends.
 pub fn end_of(all: &[u8], from: usize, stretch: Stretch) -> usize
     ensures { result ≤ length all.now }
 {
-    let mut end = least(from, all.len());
-    while end < all.len() && goes_on(stretch, all[end]) {
-        end += 1;
-    }
-    end
+    let start = from.min(all.len());
+    all[start..]
+        .iter()
+        .position(|byte| !stretch.has(*byte))
+        .map_or(all.len(), |so_many| start + so_many)
 }
 
 pub fn same(a: &[u8], b: &[u8]) -> bool {
-    if a.len() != b.len() {
-        return false;
-    }
-    let mut i = 0;
-    while i < a.len() {
-        if i < b.len() {
-            if a[i] != b[i] {
-                return false;
-            }
-        }
-        i += 1;
-    }
-    true
+    a == b
 }
 
-// What the numbers of a line are.
-#[derive(Clone, Copy)]
-pub enum Numbers {
-    Count(usize),
-    Wrong,
-}
-
-#[derive(Clone, Copy)]
-enum Number {
-    Value(u32),
-    Wrong,
-}
-
-// Reads the numbers after a command's word, up to a remark. More than there is room for is wrong for every command.
-pub fn read_numbers(line: &[u8], numbers: &mut [u32]) -> Numbers {
-    let mut at = 0usize;
+// Reads the numbers after a command's word, up to a remark, and answers how many. More than there is room for is wrong for
+// every command, as is a word that is no number.
+pub fn read_numbers(line: &[u8], numbers: &mut [u32]) -> Option<usize> {
+    let words = line
+        .split(|byte| is_blank(*byte))
+        .filter(|word| !word.is_empty())
+        .take_while(|word| !word.starts_with(b"#"));
     let mut count = 0usize;
-    let mut left = line.len();
-    while 0 < left {
-        let start = end_of(line, at, Stretch::Blanks);
-        if start == line.len() {
-            return Numbers::Count(count);
-        }
-        if line[start] == b'#' {
-            return Numbers::Count(count);
-        }
-        at = end_of(line, start, Stretch::Word);
-        let Number::Value(value) = number_of(between(line, start, at)) else {
-            return Numbers::Wrong;
-        };
-        if numbers.len() <= count {
-            return Numbers::Wrong;
-        }
-        numbers[count] = value;
+    for word in words {
+        *numbers.get_mut(count)? = number_of(word)?;
         count += 1;
-        left -= 1;
     }
-    Numbers::Count(count)
+    Some(count)
 }
 
-fn number_of(word: &[u8]) -> Number {
-    let mut value = 0u64;
-    let mut i = 0usize;
-    while i < word.len() {
-        let digit = digit(word[i]);
-        if digit == 10 {
-            return Number::Wrong;
-        }
-        value = value * 10 + digit;
-        if 4294967295 < value {
-            return Number::Wrong;
-        }
-        i += 1;
+// The number that a word of digits means, if it fits 32 bits. `parse` would read a sign too.
+fn number_of(word: &[u8]) -> Option<u32> {
+    let mut value = 0u32;
+    for byte in word {
+        let digit = char::from(*byte).to_digit(10)?;
+        value = value.checked_mul(10)?.checked_add(digit)?;
     }
-    Number::Value(value as u32)
-}
-
-// 10 for a byte that is no digit.
-fn digit(byte: u8) -> u64
-    ensures { result ≤ 10 }
-{
-    match byte {
-        48..=57 => (byte - 48) as u64,
-        _ => 10,
-    }
+    Some(value)
 }
 
 // The first of some numbers.
 pub fn first(numbers: &[u32], count: usize) -> &[u32] {
-    let to = least(count, numbers.len());
-    &numbers[0..to]
+    between(numbers, 0, count)
 }
 
-// One of a line's numbers, 0 where there are not so many.
-pub fn at(numbers: &[u32], i: usize) -> u32 {
-    if i < numbers.len() {
-        return numbers[i];
-    }
-    0
+// One of a line's or a list's numbers, 0 where there are not so many.
+pub fn at<T: Copy + Default>(numbers: &[T], i: usize) -> T {
+    numbers.get(i).copied().unwrap_or_default()
 }

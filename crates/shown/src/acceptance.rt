@@ -28,33 +28,24 @@ pub fn beside(console: &Console, made: u16, working: bool) {
 }
 
 pub fn turns_made(console: &Console, made: u16, working: bool) {
-    number(console, made as u64);
-    if working {
-        text(console, b" turns made, a seat is at work");
-    } else {
-        text(console, b" turns made, no seat is at work");
-    }
+    let which = if working { "a" } else { "no" };
+    print!(console; "{made} turns made, {which} seat is at work");
 }
 
 // Which rule the search of a seat ran into last; 255 is none.
 pub fn rule_met(console: &Console, seat: u32, rule: u8) {
     if rule == 255 {
-        around(console, b"seat ", seat as u64, b" has run into no rule");
+        print!(console; "seat {seat} has run into no rule");
     } else {
-        around(console, b"seat ", seat as u64, b" last ran into rule ");
-        number(console, rule as u64);
+        print!(console; "seat {seat} last ran into rule {rule}");
     }
 }
 
 // The bits of a mask, rising.
 pub fn options_of(console: &Console, mask: u16) {
-    let mut rest = mask;
-    let mut a = 0u64;
-    while a < 16 {
-        if rest % 2 == 1 {
-            around(console, b" ", a, b"");
+    for a in 0..16u16 {
+        if mask >> a & 1 == 1 {
+            print!(console; " {a}");
         }
-        rest = rest / 2;
-        a += 1;
     }
 }

@@ -2,18 +2,12 @@
 use search::{Seat, State};
 
 pub fn of_seat(h: u64, seat: Seat) -> u64 {
-    let state = seat.state;
-    let choices = seat.choices;
-    let masks = seat.masks;
-    let trial = seat.trial;
-    let alternatives = seat.alternatives;
-    let rule = [seat.broken];
-    let with_state = fold(h, &state_bytes(state));
-    let with_choices = fold(with_state, &choices);
-    let with_masks = fold_masks(with_choices, &masks);
-    let with_alternatives = fold_masks(with_masks, &alternatives);
-    let with_trial = fold(with_alternatives, &trial);
-    fold(with_trial, &rule)
+    let with_state = fold(h, &state_bytes(seat.state));
+    let with_choices = fold(with_state, &seat.choices);
+    let with_masks = fold_masks(with_choices, &seat.masks);
+    let with_alternatives = fold_masks(with_masks, &seat.alternatives);
+    let with_trial = fold(with_alternatives, &seat.trial);
+    fold(with_trial, &[seat.broken])
 }
 
 // The state's number and the place.
@@ -27,36 +21,19 @@ fn state_bytes(state: State) -> [u8; 5] {
 
 // The low byte of each mask, then the high one.
 fn fold_masks(h: u64, masks: &[u16]) -> u64 {
-    let mut folded = h;
-    let mut i = 0usize;
-    while i < masks.len() {
-        let mask = wide(masks[i]);
-        folded = step(step(folded, mask % 256), mask / 256);
-        i += 1;
-    }
-    folded
+    masks
+        .iter()
+        .fold(h, |folded, mask| fold(folded, &mask.to_le_bytes()))
 }
 
 pub fn fold(h: u64, bytes: &[u8]) -> u64 {
-    let mut folded = h;
-    let mut i = 0usize;
-    while i < bytes.len() {
-        folded = step(folded, byte(bytes[i]));
-        i += 1;
-    }
-    folded
+    bytes
+        .iter()
+        .fold(h, |folded, byte| step(folded, u64::from(*byte)))
 }
 
 fn step(h: u64, b: u64) -> u64 {
     let sum = h.wrapping_add(b).wrapping_add(1);
     let spread = sum.wrapping_add(sum << 10);
     spread ^ (spread >> 6)
-}
-
-fn byte(b: u8) -> u64 {
-    b as u64
-}
-
-fn wide(mask: u16) -> u64 {
-    mask as u64
 }

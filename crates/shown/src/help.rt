@@ -1,8 +1,7 @@
 // What the console says of itself.
-use lines::{Console, text};
+use lines::Console;
 
-const START: [u8; 809] =
-    *b"Nethazel: a configurator desk for eight clinics. Each sits at a seat, 0 to 7,
+const START: &str = "Nethazel: a configurator desk for eight clinics. Each sits at a seat, 0 to 7,
 chooses options of a product, and sees exactly the options that still fit some
 complete product, each with an example. Here the product is the trolley: three
 features, 0 to 2, with 3, 3 and 2 options, and two rules (catalogue shows it).
@@ -20,7 +19,7 @@ help lists the rest; quit ends.
 
 ";
 
-const HELP: [u8; 2468] = *b"The desk's fields, set by hand to try what is refused:
+const HELP: &str = "The desk's fields, set by hand to try what is refused:
   set-next SEAT                    where the next turn begins to look
   set-closed SEAT                  the state of a seat: closed
   set-ready SEAT                   the state of a seat: ready
@@ -63,11 +62,9 @@ commas between.
 
 // For a person who has just sat down.
 pub fn start(console: &Console) {
-    let lines = START;
-    text(console, &lines);
+    console.print(START);
 }
 
 pub fn help(console: &Console) {
-    let lines = HELP;
-    text(console, &lines);
+    console.print(HELP);
 }

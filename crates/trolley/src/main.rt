@@ -12,17 +12,16 @@ const RULES: [u16; 24] = [
 ];
 
 fn main(rt: HostRuntime) -> io::Result<()> {
-    let sizes = SIZES;
-    let rules = RULES;
     let mut board = [0u8; 32768];
-    let opened = desk::open(&mut board, &sizes, &rules);
-    let entered = desk::enter(opened.desk, &mut board, &sizes, &rules, 3);
-    let ready = desk::turns(entered.desk, &mut board, &sizes, &rules, 65535);
-    let chosen = desk::choose(ready.desk, &mut board, &sizes, &rules, 3, 2, 0);
-    let again = desk::turns(chosen.desk, &mut board, &sizes, &rules, 65535);
-    list(&rt, again.desk, &board, &sizes, &rules, 0)?;
-    list(&rt, again.desk, &board, &sizes, &rules, 1)?;
-    list(&rt, again.desk, &board, &sizes, &rules, 2)
+    let opened = desk::open(&mut board, &SIZES, &RULES);
+    let entered = desk::enter(opened.desk, &mut board, &SIZES, &RULES, 3);
+    let ready = desk::turns(entered.desk, &mut board, &SIZES, &RULES, 65535);
+    let chosen = desk::choose(ready.desk, &mut board, &SIZES, &RULES, 3, 2, 0);
+    let again = desk::turns(chosen.desk, &mut board, &SIZES, &RULES, 65535);
+    for i in 0..SIZES.len() {
+        list(&rt, again.desk, &board, &SIZES, &RULES, i)?;
+    }
+    Ok(())
 }
 
 fn list(
@@ -40,27 +39,15 @@ fn list(
     println!(rt; " {count}")
 }
 
-// The options left joined by commas, "-" if none. Each turn finds the first that is left and takes its bit away.
+// The options left joined by commas, "-" if none.
 fn print_options(rt: &impl Print, mask: u16) -> io::Result<()> {
     if mask == 0 {
         return print!(rt; "-");
     }
-    let mut rest = mask;
-    let mut left = 16usize;
-    while 0 < left {
-        if rest == 0 {
-            return Ok(());
-        }
-        if rest != mask {
-            print!(rt; ",")?;
-        }
-        print!(rt; "{}", wide(rest.trailing_zeros()))?;
-        rest = rest & (rest - 1);
-        left -= 1;
+    let first = mask.trailing_zeros();
+    for a in (first..16).filter(|a| mask >> *a & 1 == 1) {
+        let comma = if a == first { "" } else { "," };
+        print!(rt; "{comma}{a}")?;
     }
     Ok(())
-}
-
-fn wide(x: u32) -> u64 {
-    x as u64
 }

@@ -1,68 +1,55 @@
 // A catalogue in columns: what a line begins with takes 8 bytes, each number 4.
 use crate::faults::fault;
-use crate::lists::{Way, fill, write, write_list, write_sizes};
-use crate::met::{at, between, meet, onward, rule_at};
-use lines::{Console, around, counted, text};
+use crate::lists::Columns;
+use crate::met::{Met, arity, cut, features_and_rows, first_rule, meet, row_count};
+use lines::{Console, counted, text};
 
 // The features, the rules that stand before the fault met first, and that fault.
 pub fn catalogue(console: &Console, sizes: &[u8], rules: &[u16]) {
     let found = meet(sizes, rules);
     counted(console, sizes.len() as u64, b"feature");
     text(console, b", ");
-    counted(console, found.rules as u64, b"rule");
+    counted(console, found.whole as u64, b"rule");
     text(console, b"\nfeature ");
     first_numbers(console, sizes.len());
     text(console, b"\noptions ");
-    write_sizes(console, Way::Column, sizes);
-    text(console, b"\n");
-    first_rules(console, rules, found.rules);
-    if found.fault != 0 {
-        fault(console, found, sizes, rules);
+    println!(console; "{}", Columns(sizes));
+    first_rules(console, found);
+    if let Some(number) = found.fault {
+        fault(console, number, found);
         text(console, b"\n");
     }
 }
 
 fn first_numbers(console: &Console, count: usize) {
-    let mut i = 0usize;
-    while i < count {
-        write(console, Way::Column, i);
-        i += 1;
+    for i in 0..count {
+        print!(console; "{i:>4}");
     }
 }
 
-fn first_rules(console: &Console, rules: &[u16], count: usize) {
-    let mut place = 0usize;
-    let mut i = 0usize;
-    while i < count {
-        let rule = rule_at(rules, place);
+fn first_rules(console: &Console, found: Met) {
+    let mut rest = found.rules;
+    for i in 0..found.whole {
+        let (rule, after) = first_rule(rest);
         write_rule(console, i, rule);
-        place = onward(place, rule.len(), rules.len());
-        i += 1;
+        rest = after;
     }
 }
 
 fn write_rule(console: &Console, i: usize, rule: &[u16]) {
-    let k = at(rule, 0);
-    let m = at(rule, 1);
-    let body = 2 + k;
-    around(console, b"rule ", i as u64, b": ");
-    counted(console, m as u64, b"row");
-    text(console, b"\nfeature ");
-    write_list(console, Way::Column, between(rule, 2, body));
-    text(console, b"\n");
-    write_rows(console, between(rule, body, rule.len()), k, m);
+    let (features, rows) = features_and_rows(rule);
+    let count = row_count(rule);
+    print!(console; "rule {i}: ");
+    counted(console, count as u64, b"row");
+    println!(console; "\nfeature {}", Columns(features));
+    write_rows(console, rows, arity(rule), count);
 }
 
-fn write_rows(console: &Console, options: &[u16], k: usize, count: usize) {
-    let mut place = 0usize;
-    let mut i = 0usize;
-    while i < count {
-        let end = onward(place, k, options.len());
-        around(console, b"row ", i as u64, b"");
-        fill(console, i);
-        write_list(console, Way::Column, between(options, place, end));
-        text(console, b"\n");
-        place = end;
-        i += 1;
+fn write_rows(console: &Console, rows: &[u16], k: usize, count: usize) {
+    let mut rest = rows;
+    for i in 0..count {
+        let (row, after) = cut(rest, k);
+        println!(console; "row {i:<4}{}", Columns(row));
+        rest = after;
     }
 }

@@ -1,30 +1,19 @@
 // The lines that answer new sizes and new rules: how many numbers, and what they make or which fault they have. Both answer
 // whether there is none.
-use crate::met::{Met, feature_met, meet, row_met, rule_at};
-use lines::{Console, around, counted, number, text};
+use crate::met::{Met, feature_met, first_rule, meet, row_met};
+use lines::{Console, counted, text};
 use shown::{Lengths, words_of_room};
 
 // The sizes are looked at alone, as if there were no rule.
 pub fn sizes(console: &Console, sizes: &[u8]) -> bool {
     count_of_numbers(console, sizes.len());
-    features_or_fault(console, sizes, &[0u16; 0])
-}
-
-fn features_or_fault(console: &Console, sizes: &[u8], rules: &[u16]) -> bool {
-    made_or_fault(
-        console,
-        meet(sizes, rules),
-        sizes,
-        rules,
-        sizes.len(),
-        b"feature",
-    )
+    made_or_fault(console, meet(sizes, &[]), sizes.len(), b"feature")
 }
 
 pub fn rules(console: &Console, sizes: &[u8], rules: &[u16]) -> bool {
     let found = meet(sizes, rules);
     count_of_numbers(console, rules.len());
-    made_or_fault(console, found, sizes, rules, found.rules, b"rule")
+    made_or_fault(console, found, found.whole, b"rule")
 }
 
 fn count_of_numbers(console: &Console, n: usize) {
@@ -32,48 +21,43 @@ fn count_of_numbers(console: &Console, n: usize) {
     text(console, b": ");
 }
 
-fn made_or_fault(
-    console: &Console,
-    found: Met,
-    sizes: &[u8],
-    rules: &[u16],
-    count: usize,
-    what: &[u8],
-) -> bool {
-    if found.fault == 0 {
-        counted(console, count as u64, what);
-    } else {
-        fault(console, found, sizes, rules);
+fn made_or_fault(console: &Console, found: Met, count: usize, what: &[u8]) -> bool {
+    match found.fault {
+        None => counted(console, count as u64, what),
+        Some(number) => fault(console, number, found),
     }
     text(console, b"\n");
-    found.fault == 0
+    found.fault.is_none()
 }
 
 // A fault, where it was met, and its words.
-pub fn fault(console: &Console, found: Met, sizes: &[u8], rules: &[u16]) {
-    let number = found.fault;
-    around(console, b"fault ", number as u64, b"");
-    place(console, found, sizes, rules);
+pub fn fault(console: &Console, number: u8, found: Met) {
+    print!(console; "fault {number}");
+    place(console, number, found);
     text(console, b": ");
     words_of_room(
         console,
         number,
         Lengths {
             board: 0,
-            sizes: sizes.len(),
-            rules: rules.len(),
+            sizes: found.sizes.len(),
+            rules: found.rules.len(),
         },
     );
 }
 
-fn place(console: &Console, found: Met, sizes: &[u8], rules: &[u16]) {
-    let fault = found.fault;
-    match fault {
-        11 => around(console, b" in feature ", feature_met(sizes) as u64, b""),
-        14..=17 => around(console, b" in rule ", found.rules as u64, b""),
+fn place(console: &Console, number: u8, found: Met) {
+    let rule = found.whole;
+    match number {
+        11 => {
+            let feature = feature_met(found.sizes);
+            print!(console; " in feature {feature}");
+        }
+        14..=17 => print!(console; " in rule {rule}"),
         18 => {
-            around(console, b" in rule ", found.rules as u64, b", row ");
-            number(console, row_met(sizes, rule_at(rules, found.place)) as u64);
+            let (broken, _) = first_rule(found.rest);
+            let row = row_met(found.sizes, broken);
+            print!(console; " in rule {rule}, row {row}");
         }
         _ => {}
     }

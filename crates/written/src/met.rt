@@ -1,144 +1,121 @@
-// Where in a catalogue a fault is met: a walk over the rule list, rule by rule. Every place is held to the numbers that are
-// there, so no caller has to show that it is.
-ghost use Rattle.std.specs.Prelude.{◌≤◌, ◌<◌};
+// Where in a catalogue a fault is met: a walk over the rule list, rule by rule. A list is cut at most at its end, so no
+// caller has to show that it is so long.
+ghost use Rattle.std.specs.Prelude.{◌<◌};
 
-use lines::least;
-use numbers::{size_at, wide};
+use lines::at;
 
-// A catalogue's fault, 0 for none; how many whole rules stand before it, all where there is none; the place after them.
+// A catalogue, and its fault if it has one; how many whole rules stand before that, all where there is none; what stands
+// after them.
 #[derive(Clone, Copy)]
-pub struct Met {
-    pub fault: u8,
-    pub rules: usize,
-    pub place: usize,
+pub struct Met<'a> {
+    pub sizes: &'a [u8],
+    pub rules: &'a [u16],
+    pub fault: Option<u8>,
+    pub whole: usize,
+    pub rest: &'a [u16],
 }
 
-// The numbers from one place up to another.
-pub fn between(all: &[u16], from: usize, to: usize) -> &[u16] {
-    let end = least(to, all.len());
-    let start = least(from, end);
-    &all[start..end]
+// The first numbers of a list, so many if there are, and the others.
+pub fn cut(list: &[u16], count: usize) -> (&[u16], &[u16]) {
+    list.split_at(count.min(list.len()))
 }
 
-// A number of a list, 0 where there are not so many.
-pub fn at(all: &[u16], i: usize) -> usize
+// The rule that a list begins with, as much of it as is there, and the others.
+pub fn first_rule(list: &[u16]) -> (&[u16], &[u16]) {
+    cut(list, width(list))
+}
+
+// A rule's arity.
+pub fn arity(rule: &[u16]) -> usize
     ensures { result < 65536 }
 {
-    if i < all.len() {
-        return wide(all[i]);
-    }
-    0
+    usize::from(at(rule, 0))
 }
 
-// The place so many numbers further on, at most the end.
-pub fn onward(place: usize, by: usize, end: usize) -> usize
-    ensures { result ≤ end }
+// How many rows a rule has.
+pub fn row_count(rule: &[u16]) -> usize
+    ensures { result < 65536 }
 {
-    let from = least(place, end);
-    from + least(by, end - from)
+    usize::from(at(rule, 1))
 }
 
-// The rule that begins at a place, as much of it as is there.
-pub fn rule_at(rules: &[u16], place: usize) -> &[u16] {
-    let rest = between(rules, place, rules.len());
-    between(rest, 0, width(rest))
+// A rule's features, and the options of its rows, row after row.
+pub fn features_and_rows(rule: &[u16]) -> (&[u16], &[u16]) {
+    let (_, body) = cut(rule, 2);
+    cut(body, arity(rule))
 }
 
 // How many numbers a rule takes: its arity and row count, its features, its rows. Of a rule with an arity above 6 nothing
 // but the arity is read.
 fn width(rule: &[u16]) -> usize {
-    let k = least(at(rule, 0), 6);
-    let m = at(rule, 1);
-    2 + k + k * m
+    let k = arity(rule).min(6);
+    2 + k + k * row_count(rule)
 }
 
 // Of a list that is too long no rule is read.
-pub fn meet(sizes: &[u8], rules: &[u16]) -> Met {
-    let fault = catalogue::fault(sizes, rules);
-    if fault == 12 {
-        return Met {
-            fault,
-            rules: 0,
-            place: 0,
-        };
+pub fn meet<'a>(sizes: &'a [u8], rules: &'a [u16]) -> Met<'a> {
+    let fault = fault_of(sizes, rules);
+    let most = if fault == Some(12) { 0 } else { 64 };
+    let (whole, rest) = walk(sizes, rules, most);
+    Met {
+        sizes,
+        rules,
+        fault,
+        whole,
+        rest,
     }
-    walk(fault, sizes, rules)
 }
 
-// Each rule is judged alone: it has the fault that it has in the list.
-fn walk(fault: u8, sizes: &[u8], list: &[u16]) -> Met {
-    let mut rules = 0usize;
-    let mut place = 0usize;
-    while rules < 64 {
-        let rule = rule_at(list, place);
+fn fault_of(sizes: &[u8], rules: &[u16]) -> Option<u8> {
+    match catalogue::fault(sizes, rules) {
+        0 => None,
+        fault => Some(fault),
+    }
+}
+
+// How many rules stand at the front of a list, up to so many, and what stands after them. Each rule is judged alone: it has
+// the fault that it has in the list.
+fn walk<'a>(sizes: &[u8], list: &'a [u16], most: usize) -> (usize, &'a [u16]) {
+    let mut rest = list;
+    for whole in 0..most {
+        let (rule, after) = first_rule(rest);
         if !stands(sizes, rule) {
-            return Met {
-                fault,
-                rules,
-                place,
-            };
+            return (whole, rest);
         }
-        place = onward(place, rule.len(), list.len());
-        rules += 1;
+        rest = after;
     }
-    Met {
-        fault,
-        rules,
-        place,
-    }
+    (most, rest)
 }
 
 // Whether there is a rule, whole and without a fault.
 fn stands(sizes: &[u8], rule: &[u16]) -> bool {
-    if rule.len() == 0 {
-        return false;
-    }
-    catalogue::fault(sizes, rule) == 0
+    !rule.is_empty() && fault_of(sizes, rule).is_none()
 }
 
 // The first feature whose size is 0 or above 16.
 pub fn feature_met(sizes: &[u8]) -> usize {
-    let mut i = 0usize;
-    while i < sizes.len() {
-        let size = sizes[i];
-        if size == 0 {
-            return i;
-        }
-        if 16 < size {
-            return i;
-        }
-        i += 1;
-    }
-    i
+    sizes
+        .iter()
+        .position(|size| *size == 0 || 16 < *size)
+        .unwrap_or(sizes.len())
 }
 
 // The first row of a rule with an option that is not below its feature's size.
 pub fn row_met(sizes: &[u8], rule: &[u16]) -> usize {
-    let k = at(rule, 0);
+    let k = arity(rule);
     if k == 0 {
         return 0;
     }
-    let body = 2 + k;
-    let features = between(rule, 2, body);
-    first_too_great(sizes, features, between(rule, body, rule.len())) / k
+    let (features, rows) = features_and_rows(rule);
+    rows.chunks(k)
+        .position(|row| is_too_great(sizes, features, row))
+        .unwrap_or(rows.len() / k)
 }
 
-// Of the options of all rows, row after row, the first that is not below its feature's size.
-fn first_too_great(sizes: &[u8], features: &[u16], options: &[u16]) -> usize {
-    let mut i = 0usize;
-    while i < options.len() {
-        if size_at(sizes, at(features, remainder(i, features.len()))) <= wide(options[i]) {
-            return i;
-        }
-        i += 1;
-    }
-    i
-}
-
-// 0 where there is nothing to divide by.
-fn remainder(i: usize, by: usize) -> usize {
-    if by == 0 {
-        return 0;
-    }
-    i % by
+// Whether an option of a row is not below its feature's size.
+fn is_too_great(sizes: &[u8], features: &[u16], row: &[u16]) -> bool {
+    features.iter().zip(row).any(|(feature, option)| {
+        let size = at(sizes, usize::from(*feature));
+        u16::from(size) <= *option
+    })
 }
