@@ -8,10 +8,10 @@ use shown::{
 };
 
 // A refused open hands back a closed desk, which is not kept; any other call the desk as it came.
-pub fn change(console: &Console, mut parts: Parts, change: Change, asked: Asked) {
+pub fn change(console: &Console, parts: &mut Parts, change: Change, asked: Asked) {
     let changed = parts.change(change, asked);
     if changed.number == 0 {
-        *parts.desk = changed.desk;
+        parts.desk = changed.desk;
         accepted(console, change, asked);
     } else {
         refused(console, changed.number, parts.lengths(), asked);
@@ -34,7 +34,7 @@ pub fn question(console: &Console, parts: &Parts, question: Question, asked: Ask
     }
 }
 
-pub fn turns(console: &Console, mut parts: Parts, asked: Asked) {
+pub fn turns(console: &Console, parts: &mut Parts, asked: Asked) {
     let turned = parts.turn((asked.seat % 65536) as u16);
     if turned.number == 0 {
         turns_made(console, turned.made, turned.working);

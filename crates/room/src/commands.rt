@@ -1,5 +1,7 @@
 // What each command does.
+use crate::parts::{Parts, in_use};
 use crate::{Lent, Room, calls, digest, fields, list, showing, work};
+use desk::Desk;
 use lines::commands::{Command, View};
 use lines::{Console, at, byte, text};
 use shown::{Asked, help};
@@ -7,47 +9,75 @@ use shown::{Asked, help};
 impl Room {
     // A number that is no command does nothing.
     pub fn obey(&mut self, console: &Console, lent: &mut Lent, command: usize, numbers: &[u32]) {
-        let Ok(command) = Command::try_from(command) else {
-            return;
-        };
-        let asked = Asked {
-            seat: at(numbers, 0),
-            feature: at(numbers, 1),
-            option: at(numbers, 2),
-        };
-        let watched = self.watched;
-        match command {
-            Command::Change(change) => calls::change(console, self.parts(lent), change, asked),
-            Command::Question(question) => {
-                calls::question(console, &self.parts(lent), question, asked);
+        match Command::try_from(command) {
+            Ok(Command::Supply(supply)) => self.supply(console, lent, supply, numbers),
+            Ok(command) => {
+                let room = *self;
+                self.desk = answer(
+                    console, room, lent.board, lent.sizes, lent.rules, command, numbers,
+                );
             }
-            Command::Turns => calls::turns(console, self.parts(lent), asked),
-            Command::Work => work::work(console, self.parts(lent), asked, watched),
-            Command::Supply(supply) => self.supply(console, lent, supply, numbers),
-            Command::SetNext => {
-                self.desk.next = byte(at(numbers, 0));
-                text(console, b"set\n");
-            }
-            Command::SetSeat(field) => {
-                fields::set(&mut self.desk, field, numbers);
-                text(console, b"set\n");
-            }
-            Command::View(view) => self.view(console, lent, view, at(numbers, 0)),
-            Command::Quit | Command::Exit => {}
+            Err(_) => {}
         }
     }
+}
 
-    fn view(&mut self, console: &Console, lent: &mut Lent, view: View, seat: u32) {
-        let parts = self.parts(lent);
-        match view {
-            View::Seat => showing::seat(console, parts.desk, seat as usize),
-            View::Desk => showing::desk(console, parts.desk),
-            View::Share => shown::share(console, parts.board, seat),
-            View::List => list::list(console, &parts, seat),
-            View::Catalogue => written::catalogue(console, parts.sizes, parts.rules),
-            View::Numbers => written::numbers(console, parts.sizes, parts.rules),
-            View::Digest => digest::digest(console, parts.desk, parts.board),
-            View::Help => help::help(console),
+// Answers with the parts of what is lent that are in use, and hands back the desk.
+fn answer(
+    console: &Console,
+    room: Room,
+    board: &mut [u8],
+    sizes: &mut [u8],
+    rules: &mut [u16],
+    command: Command,
+    numbers: &[u32],
+) -> Desk {
+    let length = room.board_length.min(board.len());
+    let mut parts = Parts {
+        desk: room.desk,
+        board: &mut board[..length],
+        sizes: in_use(sizes, room.sizes_count),
+        rules: in_use(rules, room.rules_count),
+    };
+    perform(console, &mut parts, command, numbers, room.watched);
+    parts.desk
+}
+
+// What is supplied is no part: the room itself sees to it.
+fn perform(console: &Console, parts: &mut Parts, command: Command, numbers: &[u32], watched: bool) {
+    let asked = Asked {
+        seat: at(numbers, 0),
+        feature: at(numbers, 1),
+        option: at(numbers, 2),
+    };
+    match command {
+        Command::Change(change) => calls::change(console, parts, change, asked),
+        Command::Question(question) => calls::question(console, parts, question, asked),
+        Command::Turns => calls::turns(console, parts, asked),
+        Command::Work => work::make_ready(console, parts, asked, watched),
+        Command::SetNext => {
+            parts.desk.next = byte(asked.seat);
+            text(console, b"set\n");
         }
+        Command::SetSeat(field) => {
+            fields::set(&mut parts.desk, field, numbers);
+            text(console, b"set\n");
+        }
+        Command::View(view) => show(console, parts, view, asked.seat),
+        Command::Supply(_) | Command::Quit | Command::Exit => {}
+    }
+}
+
+fn show(console: &Console, parts: &Parts, view: View, seat: u32) {
+    let desk = parts.desk;
+    match view {
+        View::Seat => showing::seat(console, desk, seat as usize),
+        View::Desk => showing::desk(console, desk),
+        View::Share => shown::share(console, parts.board, seat),
+        View::List => list::list(console, parts, seat),
+        View::Catalogue => written::catalogue(console, parts.sizes, parts.rules),
+        View::Numbers => written::numbers(console, parts.sizes, parts.rules),
+        View::Digest => digest::digest(console, desk, parts.board),
+        View::Help => help::help(console),
     }
 }

@@ -3,13 +3,13 @@ use desk::Desk;
 use lines::{Console, hexadecimal, text};
 use shown::digest::{fold, of_seat};
 
-pub fn digest(console: &Console, desk: &Desk, board: &[u8]) {
+pub fn digest(console: &Console, desk: Desk, board: &[u8]) {
     let with_desk = fold(of_seats(desk), &[desk.next]);
     text(console, b"digest ");
     hexadecimal(console, fold(with_desk, board));
     text(console, b"\n");
 }
 
-fn of_seats(desk: &Desk) -> u64 {
+fn of_seats(desk: Desk) -> u64 {
     desk.seats.iter().fold(0, |h, seat| of_seat(h, *seat))
 }

@@ -70,7 +70,7 @@ fn chosen(console: &Console, parts: &Parts, asked: Asked) {
 }
 
 // The seats at work, rising.
-fn at_work(console: &Console, desk: &Desk) {
+fn at_work(console: &Console, desk: Desk) {
     text(console, b"at work:");
     let mut count = 0;
     for (c, seat) in desk.seats.iter().enumerate() {

@@ -1,36 +1,20 @@
 // The desk, and just as much of the lent memory as is in use: what the desk's calls get.
-use crate::{Lent, Room};
 use desk::{Changed, Desk, Left, Ran, Turned};
 use lines::commands::Change;
-use lines::least;
 use seat::Seat;
 use shown::{Asked, Lengths};
 
 #[derive(Drop)]
 pub struct Parts<'a> {
-    pub desk: &'a mut Desk,
+    pub desk: Desk,
     pub board: &'a mut [u8],
     pub sizes: &'a [u8],
     pub rules: &'a [u16],
 }
 
-impl Room {
-    pub(crate) fn parts<'a>(&'a mut self, lent: &'a mut Lent) -> Parts<'a> {
-        let b = least(self.board_length, lent.board.len());
-        let s = least(self.sizes_count, lent.sizes.len());
-        let r = least(self.rules_count, lent.rules.len());
-        Parts {
-            desk: &mut self.desk,
-            board: &mut lent.board[..b],
-            sizes: &lent.sizes[..s],
-            rules: &lent.rules[..r],
-        }
-    }
-}
-
 impl Parts<'_> {
     pub fn change(&mut self, change: Change, asked: Asked) -> Changed {
-        let desk = *self.desk;
+        let desk = self.desk;
         let c = asked.seat as usize;
         let i = asked.feature as usize;
         let a = asked.option as usize;
@@ -45,15 +29,15 @@ impl Parts<'_> {
 
     // The desk is as it then is.
     pub fn turn(&mut self, w: u16) -> Turned {
-        let turned = desk::turns(*self.desk, self.board, self.sizes, self.rules, w);
-        *self.desk = turned.desk;
+        let turned = desk::turns(self.desk, self.board, self.sizes, self.rules, w);
+        self.desk = turned.desk;
         turned
     }
 
     pub fn left(&self, seat: u32, feature: u32) -> Left {
         let i = feature as usize;
         desk::options(
-            *self.desk,
+            self.desk,
             self.board,
             self.sizes,
             self.rules,
@@ -65,31 +49,25 @@ impl Parts<'_> {
     pub fn alternatives(&self, asked: Asked) -> Left {
         let c = asked.seat as usize;
         let i = asked.feature as usize;
-        desk::alternatives(*self.desk, self.board, self.sizes, self.rules, c, i)
+        desk::alternatives(self.desk, self.board, self.sizes, self.rules, c, i)
     }
 
     pub fn example_number(&self, asked: Asked) -> u8 {
         let c = asked.seat as usize;
         let i = asked.feature as usize;
         let a = asked.option as usize;
-        desk::example_number(*self.desk, self.board, self.sizes, self.rules, c, i, a)
+        desk::example_number(self.desk, self.board, self.sizes, self.rules, c, i, a)
     }
 
     pub fn example(&self, asked: Asked) -> &[u8] {
         let c = asked.seat as usize;
         let i = asked.feature as usize;
         let a = asked.option as usize;
-        desk::example(*self.desk, self.board, self.sizes, self.rules, c, i, a)
+        desk::example(self.desk, self.board, self.sizes, self.rules, c, i, a)
     }
 
     pub fn ran_into(&self, seat: u32) -> Ran {
-        desk::ran_into(
-            *self.desk,
-            self.board,
-            self.sizes,
-            self.rules,
-            seat as usize,
-        )
+        desk::ran_into(self.desk, self.board, self.sizes, self.rules, seat as usize)
     }
 
     pub fn lengths(&self) -> Lengths {
@@ -104,4 +82,9 @@ impl Parts<'_> {
     pub fn record(&self, seat: u32) -> Seat {
         self.desk.seats[(seat % 8) as usize]
     }
+}
+
+// As much of a list as is in use.
+pub fn in_use<T>(all: &[T], count: usize) -> &[T] {
+    &all[..count.min(all.len())]
 }

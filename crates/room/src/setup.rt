@@ -1,4 +1,5 @@
 // The start state, and what sets catalogue and board.
+use crate::parts::in_use;
 use crate::{Lent, Room};
 use desk::Desk;
 use lines::commands::Supply;
@@ -50,17 +51,15 @@ impl Room {
 
     fn set_sizes(&mut self, console: &Console, lent: &mut Lent, numbers: &[u32]) {
         self.sizes_count = put_sizes(lent.sizes, numbers);
-        let parts = self.parts(lent);
-        let good = written::sizes(console, parts.sizes);
-        say_open(console, parts.desk, good);
+        let good = written::sizes(console, in_use(lent.sizes, self.sizes_count));
+        say_open(console, self.desk, good);
     }
 
     // The rule list up to a place, and the numbers after it.
     fn add_rules(&mut self, console: &Console, lent: &mut Lent, from: usize, numbers: &[u32]) {
         self.rules_count = put_rules(lent.rules, from, numbers);
-        let parts = self.parts(lent);
-        let good = written::rules(console, parts.sizes, parts.rules);
-        say_open(console, parts.desk, good);
+        let good = are_good(console, *self, lent);
+        say_open(console, self.desk, good);
     }
 
     fn set_board(&mut self, console: &Console, lent: &mut Lent, length: u32, value: u32) {
@@ -71,8 +70,19 @@ impl Room {
     }
 }
 
+// Writes out what the rules are, or their fault; answers whether they have none.
+fn are_good(console: &Console, room: Room, lent: &Lent) -> bool {
+    let sizes = &*lent.sizes;
+    let rules = &*lent.rules;
+    written::rules(
+        console,
+        in_use(sizes, room.sizes_count),
+        in_use(rules, room.rules_count),
+    )
+}
+
 // A new catalogue leaves the desk as it is, and one with a fault is not opened.
-fn say_open(console: &Console, desk: &Desk, good: bool) {
+fn say_open(console: &Console, desk: Desk, good: bool) {
     if desk.seats.iter().all(|seat| look::is_closed(*seat)) {
         return;
     }

@@ -11,10 +11,9 @@ const PORTION: u16 = 65535;
 // The number that refuses to read a seat at work.
 pub const AT_WORK: u8 = 33;
 
-// The work for one seat.
-#[derive(Drop)]
-struct Job<'a> {
-    parts: Parts<'a>,
+// The work for one seat so far.
+#[derive(Clone, Copy)]
+struct Work {
     seat: u32,
     turns: u64,
     portions: u64,
@@ -22,76 +21,71 @@ struct Job<'a> {
     shown: bool, // whether a line says how far it is
 }
 
-pub fn work(console: &Console, parts: Parts, asked: Asked, watched: bool) {
+pub fn make_ready(console: &Console, parts: &mut Parts, asked: Asked, watched: bool) {
     let refusal = parts.left(asked.seat, 0).number;
     if refusal != 0 && refusal != AT_WORK {
         refused(console, refusal, parts.lengths(), asked);
         text(console, b"\n");
         return;
     }
-    let mut job = Job {
-        parts,
+    let mut work = Work {
         seat: asked.seat,
         turns: 0,
         portions: 0,
         watched,
         shown: false,
     };
-    job.run(console);
-    job.end(console);
+    work.run(console, parts);
+    work.end(console, parts);
 }
 
-impl Job<'_> {
+impl Work {
     // A stop that was asked for before is none of this work's.
-    fn run(&mut self, console: &Console) {
+    fn run(&mut self, console: &Console, parts: &mut Parts) {
         if self.watched {
             asked_to_stop(console);
         }
         report(console, b"working\n");
-        self.until_ready(console);
+        self.until_ready(console, parts);
         report(console, b"resting\n");
     }
 
     // No count is known beforehand, so the loop has a number of turns that no run uses up.
-    fn until_ready(&mut self, console: &Console) {
+    fn until_ready(&mut self, console: &Console, parts: &mut Parts) {
         for _ in 0..u64::MAX {
-            if !is_at_work(self.record()) {
+            if !is_at_work(parts.record(self.seat)) {
                 return;
             }
-            let refused = self.is_refused();
-            if self.is_stopped(console) || refused {
+            let refused = self.is_refused(parts);
+            if self.is_stopped(console, parts) || refused {
                 return;
             }
         }
     }
 
-    fn record(&self) -> Seat {
-        self.parts.record(self.seat)
-    }
-
-    // After the first look nothing refuses these turns; if something did, it would be the end.
-    fn is_refused(&mut self) -> bool {
-        let turned = self.parts.turn(PORTION);
+    // Makes a portion of turns. After the first look nothing refuses them; if something did, it would be the end.
+    fn is_refused(&mut self, parts: &mut Parts) -> bool {
+        let turned = parts.turn(PORTION);
         self.turns = self.turns.wrapping_add(turned.made as u64);
         self.portions = self.portions.wrapping_add(1);
         turned.number != 0
     }
 
     // Shows a person how far it is, and looks whether to stop.
-    fn is_stopped(&mut self, console: &Console) -> bool {
+    fn is_stopped(&mut self, console: &Console, parts: &Parts) -> bool {
         if !self.watched {
             return false;
         }
-        self.show(console);
+        self.show(console, parts);
         asked_to_stop(console)
     }
 
     // Every so often, while there is something to show.
-    fn show(&mut self, console: &Console) {
-        let record = self.record();
+    fn show(&mut self, console: &Console, parts: &Parts) {
+        let record = parts.record(self.seat);
         if self.portions % 8 == 0 && is_at_work(record) {
             self.write_over(console);
-            pair(console, record, self.parts.sizes);
+            pair(console, record, parts.sizes);
             around(console, b", ", self.turns, b" turns so far\n");
             self.shown = true;
         }
@@ -104,13 +98,13 @@ impl Job<'_> {
         }
     }
 
-    fn end(&self, console: &Console) {
-        let record = self.record();
+    fn end(&self, console: &Console, parts: &Parts) {
+        let record = parts.record(self.seat);
         let seat = self.seat as u64;
         self.write_over(console);
         if is_at_work(record) {
             around(console, b"stopped: seat ", seat, b" is at work: ");
-            pair(console, record, self.parts.sizes);
+            pair(console, record, parts.sizes);
         } else {
             around(console, b"seat ", seat, b" is ready");
         }
@@ -118,7 +112,7 @@ impl Job<'_> {
         counted(console, self.turns, b"turn");
         text(console, b"\n");
         if !is_at_work(record) {
-            no_product(console, record, self.parts.sizes);
+            no_product(console, record, parts.sizes);
         }
     }
 }
