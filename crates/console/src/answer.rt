@@ -1,7 +1,7 @@
 // One line and its answer.
 use lines::commands::{Command, Form, Supply, command_of, takes, write_form};
 use lines::{
-    Console, Numbers, Stretch, at, between, end_of, first, least, read_numbers, report_number, text,
+    Console, Numbers, Stretch, at, between, end_of, first, read_numbers, report_number, text,
 };
 use room::{Lent, Room};
 
@@ -60,10 +60,10 @@ impl Sitting<'_> {
 }
 
 fn ends(command: usize) -> bool {
-    match Command::try_from(command) {
-        Ok(Command::Quit | Command::Exit) => true,
-        _ => false,
-    }
+    matches!(
+        Command::try_from(command),
+        Ok(Command::Quit | Command::Exit)
+    )
 }
 
 // A byte-order mark is passed over.
@@ -100,7 +100,7 @@ fn read_command(room: Room, form: Form, rest: &[u8], numbers: &mut [u32]) -> Lin
 fn has_place(room: Room, command: usize, place: usize, count: usize) -> bool {
     match Command::try_from(command) {
         Ok(Command::Supply(Supply::SetByte)) => place < room.board_length,
-        Ok(Command::Supply(Supply::More)) => count <= 9000 - least(room.rules_count, 9000),
+        Ok(Command::Supply(Supply::More)) => count <= 9000 - room.rules_count.min(9000),
         _ => true,
     }
 }

@@ -6,6 +6,7 @@ use shown::help;
 use std::io::Read;
 
 // The line so far.
+// Stays: no heap, so it is a count of what is lent.
 #[derive(Drop)]
 struct Unfinished<'a> {
     line: &'a mut [u8],

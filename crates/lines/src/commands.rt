@@ -2,7 +2,7 @@
 ghost use Rattle.std.specs.Prelude.{◌↔◌, ◌<◌, IsOk};
 
 use crate::console::Console;
-use crate::reading::{Stretch, between, end_of, same};
+use crate::reading::{Stretch, between, end_of};
 use crate::writing::text;
 
 // A command's number is its line here, and its word the line's first.
@@ -169,6 +169,7 @@ impl TryFrom<usize> for Command {
 }
 
 // A command's number, and where its form stands.
+// Stays: a number, and no Command, since `takes` and `write_form` take any.
 #[derive(Clone, Copy)]
 pub struct Form {
     pub command: usize,
@@ -192,7 +193,7 @@ pub fn command_of(word: &[u8]) -> Option<Form> {
 // Whether a word is the first of a form.
 fn begins(form: &[u8], word: &[u8]) -> bool {
     let end = end_of(form, 0, Stretch::Word);
-    same(between(form, 0, end), word)
+    between(form, 0, end) == word
 }
 
 pub fn write_form(console: &Console, form: Form) {

@@ -23,6 +23,7 @@ impl Room {
 }
 
 // Answers with the parts of what is lent that are in use, and hands back the desk.
+// Stays: three slices. Tried with a Lent, and no proof closed: two of its fields would be lent at once.
 fn answer(
     console: &Console,
     room: Room,
@@ -43,7 +44,7 @@ fn answer(
     parts.desk
 }
 
-// What is supplied is no part: the room itself sees to it.
+// To what is supplied the room itself has seen.
 fn perform(console: &Console, parts: &mut Parts, command: Command, numbers: &[u32], watched: bool) {
     let asked = Asked {
         seat: at(numbers, 0),

@@ -14,6 +14,7 @@ mod work;
 use desk::Desk;
 
 // The lent memory has room for more than is in use: a board of `board_length` bytes, and so on.
+// Stays: no heap, so a list in use is a count of what is lent.
 #[derive(Clone, Copy)]
 pub struct Room {
     pub desk: Desk,

@@ -33,26 +33,25 @@ pub fn list(console: &Console, parts: &Parts, seat: u32) {
 }
 
 fn features(console: &Console, parts: &Parts, seat: u32) {
-    for i in 0..16 {
-        if (i as usize) < parts.sizes.len() {
-            feature(console, parts, seat, i);
-        }
+    for i in 0..parts.sizes.len().min(16) {
+        feature(console, parts, seat, i as u32);
     }
 }
 
+// Asks with the least option left.
 fn feature(console: &Console, parts: &Parts, seat: u32, feature: u32) {
     let left = parts.left(seat, feature);
     options_of_feature(console, left, feature, b" left");
-    let least = Asked {
+    let asked = Asked {
         seat,
         feature,
         option: left.mask.trailing_zeros(),
     };
     if left.mask != 0 {
-        example(console, parts, least);
+        example(console, parts, asked);
     }
     if look::has_choice(parts.record(seat), feature as usize) {
-        chosen(console, parts, least);
+        chosen(console, parts, asked);
     }
     text(console, b"\n");
 }

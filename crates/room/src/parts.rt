@@ -27,7 +27,7 @@ impl Parts<'_> {
         }
     }
 
-    // The desk is as it then is.
+    // The desk goes on from where the turns leave it.
     pub fn turn(&mut self, w: u16) -> Turned {
         let turned = desk::turns(self.desk, self.board, self.sizes, self.rules, w);
         self.desk = turned.desk;

@@ -5,8 +5,8 @@ use desk::Desk;
 use lines::commands::Supply;
 use lines::{Console, around, at, byte, fill, put_rules, put_sizes, set_byte, text};
 
-// Stays: the program trolley has this catalogue too, as bytes for the desk; here it is numbers, as a line gives them. A crate
-// for both would be more than the three lines it saves.
+// Stays: the program trolley has this catalogue too, as the desk takes it, and here it is as a line gives it. A crate that
+// both stand on would be no plainer than these three lines.
 const TROLLEY_SIZES: [u32; 3] = [3, 3, 2];
 // rule A on features 0, 1: (0,1) (1,0) (1,2) (2,1); rule B on features 1, 2: (0,0) (1,1) (2,0) (2,1)
 const TROLLEY_RULES: [u32; 24] = [

@@ -91,7 +91,8 @@ impl Work {
         }
     }
 
-    // What was shown is a whole line, which a line editor lets through at once: one line up, and all from there on erased.
+    // What was shown is a whole line, which a line editor lets through at once: one line up, and all from there on
+    // erased.
     fn write_over(&self, console: &Console) {
         if self.shown {
             text(console, b"\x1b[A\r\x1b[J");
