@@ -1,15 +1,13 @@
 // One line and its answer.
-use lines::commands::{EXIT, Form, MORE, NONE, QUIT, SET_BYTE, command_of, takes, write_form};
-use lines::{
-    Console, Stretch, at, between, end_of, first, least, read_numbers, report_number,
-    same, text,
-};
-use room::{Room, obey};
+use lines::commands::{Command, Form, Supply, command_of, takes, write_form};
+use lines::{Console, Stretch, at, between, end_of, first, read_numbers, report_number, text};
+use room::{Lent, Room};
 
 // What has become of a script's lines.
-#[derive(Clone, Copy)]
-pub struct Sitting {
+#[derive(Drop)]
+pub struct Sitting<'a> {
     pub room: Room,
+    pub lent: Lent<'a>,
     pub lines: u64, // read so far, the one being answered included
     pub answered: u64,
     pub not_understood: u64,
@@ -25,119 +23,82 @@ enum Line {
     Command(usize, usize), // and how many numbers it has
 }
 
-pub fn answer(
-    console: &Console,
-    sitting: Sitting,
-    board: &mut [u8],
-    sizes: &mut [u8],
-    rules: &mut [u16],
-    numbers: &mut [u32],
-    line: &[u8],
-) -> Sitting {
-    let what = read(console, sitting.room, line, numbers);
-    respond(console, sitting, board, sizes, rules, numbers, what)
-}
-
-fn respond(
-    console: &Console,
-    sitting: Sitting,
-    board: &mut [u8],
-    sizes: &mut [u8],
-    rules: &mut [u16],
-    numbers: &[u32],
-    what: Line,
-) -> Sitting {
-    match what {
-        Line::Nothing => sitting,
-        Line::Unknown => {
-            text(console, b"not understood; help lists the commands\n");
-            not_understood(console, sitting)
-        }
-        Line::Misused(form) => {
-            text(console, b"not understood; write: ");
-            write_form(console, form);
-            text(console, b"\n");
-            not_understood(console, sitting)
-        }
-        Line::Command(command, count) => {
-            let given = first(numbers, count);
-            let room = obey(console, sitting.room, board, sizes, rules, command, given);
-            answered(sitting, room, command)
+impl Sitting<'_> {
+    pub fn answer(&mut self, console: &Console, line: &[u8]) {
+        let mut numbers = [0u32; 9000];
+        match read(console, self.room, line, &mut numbers) {
+            Line::Nothing => {}
+            Line::Unknown => {
+                text(console, b"not understood; help lists the commands\n");
+                self.miss(console);
+            }
+            Line::Misused(form) => {
+                text(console, b"not understood; write: ");
+                write_form(console, form);
+                text(console, b"\n");
+                self.miss(console);
+            }
+            Line::Command(command, count) => self.obey(console, command, first(&numbers, count)),
         }
     }
-}
 
-pub fn not_understood(console: &Console, sitting: Sitting) -> Sitting {
-    report_number(console, b"missed ", sitting.lines);
-    let mut changed = sitting;
-    changed.not_understood = sitting.not_understood.wrapping_add(1);
-    changed
-}
+    fn obey(&mut self, console: &Console, command: usize, numbers: &[u32]) {
+        let mut room = self.room;
+        room.obey(console, &mut self.lent, command, numbers);
+        self.room = room;
+        self.answered = self.answered.wrapping_add(1);
+        self.ended = ends(command);
+    }
 
-fn answered(sitting: Sitting, room: Room, command: usize) -> Sitting {
-    Sitting {
-        room,
-        lines: sitting.lines,
-        answered: sitting.answered.wrapping_add(1),
-        not_understood: sitting.not_understood,
-        ended: ends(command),
+    // A line that is not understood is reported and counted.
+    pub fn miss(&mut self, console: &Console) {
+        report_number(console, b"missed ", self.lines);
+        self.not_understood = self.not_understood.wrapping_add(1);
     }
 }
 
 fn ends(command: usize) -> bool {
-    match command {
-        QUIT | EXIT => true,
-        _ => false,
-    }
+    matches!(
+        Command::try_from(command),
+        Ok(Command::Quit | Command::Exit)
+    )
 }
 
 // A byte-order mark is passed over.
 fn read(console: &Console, room: Room, line: &[u8], numbers: &mut [u32]) -> Line {
-    if same(between(line, 0, 3), b"\xef\xbb\xbf") {
-        return read_words(console, room, between(line, 3, line.len()), numbers);
-    }
-    read_words(console, room, line, numbers)
-}
-
-fn read_words(console: &Console, room: Room, line: &[u8], numbers: &mut [u32]) -> Line {
-    let from = end_of(line, 0, Stretch::Blanks);
-    if from == line.len() {
+    let words = line.strip_prefix(b"\xef\xbb\xbf").unwrap_or(line);
+    let from = end_of(words, 0, Stretch::Blanks);
+    if from == words.len() {
         return Line::Nothing;
     }
-    if line[from] == b'#' {
-        text(console, line);
+    if words[from] == b'#' {
+        text(console, words);
         text(console, b"\n");
         return Line::Nothing;
     }
-    let to = end_of(line, from, Stretch::Word);
-    let form = command_of(between(line, from, to));
-    if form.command == NONE {
-        return Line::Unknown;
+    let to = end_of(words, from, Stretch::Word);
+    match command_of(between(words, from, to)) {
+        Some(form) => read_command(room, form, between(words, to, words.len()), numbers),
+        None => Line::Unknown,
     }
-    read_command(room, form, between(line, to, line.len()), numbers)
 }
 
 fn read_command(room: Room, form: Form, rest: &[u8], numbers: &mut [u32]) -> Line {
-    let found = read_numbers(rest, numbers);
-    match found {
-        None => Line::Misused(form),
-        Some(count) => {
-            if !takes(form, first(numbers, count)) {
-                return Line::Misused(form);
-            }
-            if !has_place(room, form.command, at(numbers, 0) as usize, count) {
-                return Line::Misused(form);
-            }
-            Line::Command(form.command, count)
-        }
+    let Some(count) = read_numbers(rest, numbers) else {
+        return Line::Misused(form);
+    };
+    let given = first(numbers, count);
+    if takes(form, given) && has_place(room, form.command, at(given, 0) as usize, count) {
+        return Line::Command(form.command, count);
     }
+    Line::Misused(form)
 }
 
 // Whether the board has the place and the rule list room for more.
 fn has_place(room: Room, command: usize, place: usize, count: usize) -> bool {
-    match command {
-        SET_BYTE => place < room.board_length,
-        MORE => count <= 9000 - least(room.rules_count, 9000),
+    match Command::try_from(command) {
+        Ok(Command::Supply(Supply::SetByte)) => place < room.board_length,
+        Ok(Command::Supply(Supply::More)) => count <= 9000 - room.rules_count.min(9000),
         _ => true,
     }
 }

@@ -5,7 +5,7 @@
 mod answer;
 mod script;
 
-use lines::{Console, between, is_person, report, same, text};
+use lines::{Console, between, is_person, report, text};
 use script::script;
 use std::env::{Env, FillError};
 use std::fs::File;
@@ -47,14 +47,13 @@ fn argument(rt: &HostRuntime, console: &Console, i: usize) -> bool {
 fn file(rt: &HostRuntime, console: &Console, name: &[u8]) {
     text(console, b"script ");
     text(console, name);
-    if same(name, b"-") {
+    if name == b"-".as_slice() {
         text(console, b"\n");
         input(rt, console);
         return;
     }
     match opened(rt, name) {
-        Some(opened) => {
-            let mut from = opened;
+        Some(mut from) => {
             text(console, b"\n");
             script(console, &mut from, false);
         }
@@ -67,10 +66,8 @@ fn file(rt: &HostRuntime, console: &Console, name: &[u8]) {
 
 // A name that is not text names no file here.
 fn opened(rt: &HostRuntime, name: &[u8]) -> Option<File> {
-    match str::from_utf8(name) {
-        Ok(path) => File::open(rt, path).ok(),
-        Err(_) => None,
-    }
+    let path = str::from_utf8(name).ok()?;
+    File::open(rt, path).ok()
 }
 
 // Standard input, at which a person may sit.

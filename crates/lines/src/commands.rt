@@ -1,12 +1,11 @@
 // The commands: their words, their forms, and which numbers each takes.
-ghost use Rattle.std.specs.Prelude.{◌≤◌};
+ghost use Rattle.std.specs.Prelude.{◌↔◌, ◌<◌, IsOk};
 
 use crate::console::Console;
-use crate::reading::{Stretch, between, end_of, same};
+use crate::reading::{Stretch, between, end_of};
 use crate::writing::text;
 
-// A command's number is its line here, and its word the line's first. The calls stand first, then what sets catalogue
-// and board, then the desk's fields, then looking.
+// A command's number is its line here, and its word the line's first.
 pub const FORMS: [u8; 581] = *b"open
 enter SEAT
 leave SEAT
@@ -45,81 +44,132 @@ quit
 exit
 ";
 
-pub const OPEN: usize = 0;
+// What a line tells the desk to do, in the order of FORMS.
+#[derive(Clone, Copy)]
+pub enum Command {
+    Change(Change),
+    Question(Question),
+    Turns,
+    Work,
+    Supply(Supply),
+    SetNext,
+    SetSeat(Field),
+    View(View),
+    Quit,
+    Exit,
+}
 
-pub const ENTER: usize = 1;
+// The calls that answer nothing but the desk.
+#[derive(Clone, Copy)]
+pub enum Change {
+    Open,
+    Enter,
+    Leave,
+    Choose,
+    Relax,
+}
 
-pub const LEAVE: usize = 2;
+// The calls that only read.
+#[derive(Clone, Copy)]
+pub enum Question {
+    Options,
+    Alternatives,
+    Example,
+    RanInto,
+}
 
-pub const CHOOSE: usize = 3;
+// What sets catalogue and board.
+#[derive(Clone, Copy)]
+pub enum Supply {
+    Trolley,
+    Sizes,
+    Rules,
+    More,
+    Board,
+    SetByte,
+}
 
-pub const RELAX: usize = 4;
+// A field of a seat's record, set by hand.
+#[derive(Clone, Copy)]
+pub enum Field {
+    Closed,
+    Ready,
+    Work,
+    Choice,
+    Mask,
+    Alternatives,
+    Trial,
+    Rule,
+}
 
-pub const OPTIONS: usize = 5;
+// What shows desk, board or catalogue and changes nothing.
+#[derive(Clone, Copy)]
+pub enum View {
+    Seat,
+    Desk,
+    Share,
+    List,
+    Catalogue,
+    Numbers,
+    Digest,
+    Help,
+}
 
-pub const ALTERNATIVES: usize = 6;
+const COMMANDS: [Command; 36] = [
+    Command::Change(Change::Open),
+    Command::Change(Change::Enter),
+    Command::Change(Change::Leave),
+    Command::Change(Change::Choose),
+    Command::Change(Change::Relax),
+    Command::Question(Question::Options),
+    Command::Question(Question::Alternatives),
+    Command::Question(Question::Example),
+    Command::Question(Question::RanInto),
+    Command::Turns,
+    Command::Work,
+    Command::Supply(Supply::Trolley),
+    Command::Supply(Supply::Sizes),
+    Command::Supply(Supply::Rules),
+    Command::Supply(Supply::More),
+    Command::Supply(Supply::Board),
+    Command::Supply(Supply::SetByte),
+    Command::SetNext,
+    Command::SetSeat(Field::Closed),
+    Command::SetSeat(Field::Ready),
+    Command::SetSeat(Field::Work),
+    Command::SetSeat(Field::Choice),
+    Command::SetSeat(Field::Mask),
+    Command::SetSeat(Field::Alternatives),
+    Command::SetSeat(Field::Trial),
+    Command::SetSeat(Field::Rule),
+    Command::View(View::Seat),
+    Command::View(View::Desk),
+    Command::View(View::Share),
+    Command::View(View::List),
+    Command::View(View::Catalogue),
+    Command::View(View::Numbers),
+    Command::View(View::Digest),
+    Command::View(View::Help),
+    Command::Quit,
+    Command::Exit,
+];
 
-pub const EXAMPLE: usize = 7;
+// The number of no command.
+#[derive(Clone, Copy)]
+pub struct NoCommand(pub usize);
 
-pub const RAN_INTO: usize = 8;
+impl TryFrom<usize> for Command {
+    type Error = NoCommand;
 
-pub const TURNS: usize = 9;
+    ghost try_from_gives = { λ number found. IsOk found ↔ number < 36 };
 
-pub const WORK: usize = 10;
+    fn try_from(number: usize) -> Result<Self, NoCommand> {
+        COMMANDS.get(number).copied().ok_or(NoCommand(number))
+    }
+}
 
-pub const TROLLEY: usize = 11;
-
-pub const SIZES: usize = 12;
-
-pub const RULES: usize = 13;
-
-pub const MORE: usize = 14;
-
-pub const BOARD: usize = 15;
-
-pub const SET_BYTE: usize = 16;
-
-pub const SET_NEXT: usize = 17;
-
-pub const SET_CLOSED: usize = 18;
-
-pub const SET_READY: usize = 19;
-
-pub const SET_WORK: usize = 20;
-
-pub const SET_CHOICE: usize = 21;
-
-pub const SET_MASK: usize = 22;
-
-pub const SET_ALTERNATIVES: usize = 23;
-
-pub const SET_TRIAL: usize = 24;
-
-pub const SET_RULE: usize = 25;
-
-pub const SEAT: usize = 26;
-
-pub const DESK: usize = 27;
-
-pub const SHARE: usize = 28;
-
-pub const LIST: usize = 29;
-
-pub const CATALOGUE: usize = 30;
-
-pub const NUMBERS: usize = 31;
-
-pub const DIGEST: usize = 32;
-
-pub const HELP: usize = 33;
-
-pub const QUIT: usize = 34;
-
-pub const EXIT: usize = 35;
-
-pub const NONE: usize = 36;
-
-// A command, and where its form stands.
+// A command's number, and where its form stands.
+// Stays: a number, and no Command, since `takes` and `write_form` take any.
 #[derive(Clone, Copy)]
 pub struct Form {
     pub command: usize,
@@ -127,121 +177,76 @@ pub struct Form {
     pub to: usize,
 }
 
-// The command of a word; NONE if it is none.
-pub fn command_of(word: &[u8]) -> Form {
-    let forms = FORMS;
-    find(&forms, word)
-}
-
-fn find(forms: &[u8], word: &[u8]) -> Form {
-    let mut from = 0usize;
-    let mut command = 0usize;
-    while command < NONE {
-        let to = end_of(forms, from, Stretch::Line);
-        if begins(between(forms, from, to), word) {
-            return Form { command, from, to };
+// The form that begins with a word, if one does.
+pub fn command_of(word: &[u8]) -> Option<Form> {
+    let mut from = 0;
+    for command in 0..COMMANDS.len() {
+        let to = end_of(&FORMS, from, Stretch::Line);
+        if begins(between(&FORMS, from, to), word) {
+            return Some(Form { command, from, to });
         }
         from = to + 1;
-        command += 1;
     }
-    Form {
-        command,
-        from: 0,
-        to: 0,
-    }
+    None
 }
 
 // Whether a word is the first of a form.
 fn begins(form: &[u8], word: &[u8]) -> bool {
     let end = end_of(form, 0, Stretch::Word);
-    same(between(form, 0, end), word)
+    between(form, 0, end) == word
 }
 
 pub fn write_form(console: &Console, form: Form) {
-    let forms = FORMS;
-    text(console, between(&forms, form.from, form.to));
+    text(console, between(&FORMS, form.from, form.to));
 }
 
 // Whether there are as many numbers as the command takes, and each is in its range. That a place is on the board and
 // the rule list has room for more, the console's own state tells.
 pub fn takes(form: Form, numbers: &[u32]) -> bool {
-    if !takes_so_many(form, numbers.len()) {
-        return false;
-    }
-    within(form.command, numbers)
+    let Ok(command) = Command::try_from(form.command) else {
+        return numbers.len() == blanks_of(form);
+    };
+    takes_so_many(command, form, numbers.len()) && within(command, numbers)
 }
 
-fn takes_so_many(form: Form, count: usize) -> bool {
-    let command = form.command;
+fn takes_so_many(command: Command, form: Form, count: usize) -> bool {
     match command {
-        SIZES => count <= 64,
-        RULES | MORE => count <= 9000,
+        Command::Supply(Supply::Sizes) => count <= 64,
+        Command::Supply(Supply::Rules | Supply::More) => count <= 9000,
         _ => count == blanks_of(form),
     }
 }
 
 // A form has a blank before each of its numbers.
 fn blanks_of(form: Form) -> usize {
-    let forms = FORMS;
-    blanks(between(&forms, form.from, form.to))
+    let words = between(&FORMS, form.from, form.to);
+    words.iter().filter(|byte| **byte == b' ').count()
 }
 
-fn blanks(form: &[u8]) -> usize {
-    let mut count = 0usize;
-    let mut i = 0usize;
-    while i < form.len() {
-        count += is_space(form[i]);
-        i += 1;
-    }
-    count
-}
-
-// 1 for a space, 0 for another byte.
-fn is_space(byte: u8) -> usize
-    ensures { result ≤ 1 }
-{
-    if byte == b' ' { 1 } else { 0 }
-}
-
-fn within(command: usize, numbers: &[u32]) -> bool {
-    let mut i = 0usize;
-    while i < numbers.len() {
-        if most(command, i) < numbers[i] {
-            return false;
-        }
-        i += 1;
-    }
-    true
+fn within(command: Command, numbers: &[u32]) -> bool {
+    let in_range = |(i, n): (usize, &u32)| *n <= most(command, i);
+    numbers.iter().enumerate().all(in_range)
 }
 
 // The greatest that a command's number i may be.
-fn most(command: usize, i: usize) -> u32 {
+fn most(command: Command, i: usize) -> u32 {
     match command {
-        TURNS | RULES | MORE => 65535,
-        SIZES | SET_NEXT => 255,
-        BOARD | SET_BYTE => { if i == 0 { 40000 } else { 255 } }
-        SET_RULE => { if i == 0 { 7 } else { 255 } }
-        SET_CLOSED | SET_READY | SEAT | SHARE => 7,
-        SET_WORK | SET_CHOICE | SET_MASK | SET_ALTERNATIVES | SET_TRIAL => {
-            most_of_field(command, i)
-        }
-        _ => 4294967295,
+        Command::Turns | Command::Supply(Supply::Rules | Supply::More) => 65535,
+        Command::Supply(Supply::Sizes) | Command::SetNext => 255,
+        Command::Supply(Supply::Board | Supply::SetByte) => if i == 0 { 40000 } else { 255 },
+        Command::SetSeat(field) => most_of_field(field, i),
+        Command::View(View::Seat | View::Share) => 7,
+        _ => u32::MAX,
     }
 }
 
 // Of seat, feature and what is set; the feature of a place at work may be any byte.
-fn most_of_field(command: usize, i: usize) -> u32 {
-    if i == 0 {
-        return 7;
-    }
-    if command == SET_WORK {
-        return 255;
-    }
-    if i == 1 {
-        return 15;
-    }
-    match command {
-        SET_MASK | SET_ALTERNATIVES => 65535,
+fn most_of_field(field: Field, i: usize) -> u32 {
+    match (field, i) {
+        (_, 0) | (Field::Closed | Field::Ready, _) => 7,
+        (Field::Rule | Field::Work, _) => 255,
+        (_, 1) => 15,
+        (Field::Mask | Field::Alternatives, _) => 65535,
         _ => 255,
     }
 }

@@ -1,118 +1,84 @@
 // What each command does.
-use crate::{Room, calls, digest, fields, list, setup, showing, work};
-use lines::commands::{
-    CATALOGUE, DESK, DIGEST, HELP, LIST, NUMBERS, SEAT, SET_BYTE, SET_RULE, SHARE, WORK,
-};
-use lines::{Console, at, between, least, text};
+use crate::parts::{Parts, in_use};
+use crate::{Lent, Room, calls, digest, fields, list, showing, work};
+use desk::Desk;
+use lines::commands::{Command, View};
+use lines::{Console, at, byte, text};
 use shown::{Asked, help};
 
-pub fn obey(
+impl Room {
+    // A number that is no command does nothing.
+    pub fn obey(&mut self, console: &Console, lent: &mut Lent, command: usize, numbers: &[u32]) {
+        match Command::try_from(command) {
+            Ok(Command::Supply(supply)) => self.supply(console, lent, supply, numbers),
+            Ok(command) => {
+                let room = *self;
+                self.desk = answer(
+                    console, room, lent.board, lent.sizes, lent.rules, command, numbers,
+                );
+            }
+            Err(_) => {}
+        }
+    }
+}
+
+// Answers with the parts of what is lent that are in use, and hands back the desk.
+// Stays: three slices. Tried with a Lent, and the proof didn't close: slices of two of its fields can't be lent at once.
+fn answer(
     console: &Console,
     room: Room,
     board: &mut [u8],
     sizes: &mut [u8],
     rules: &mut [u16],
-    command: usize,
+    command: Command,
     numbers: &[u32],
-) -> Room {
-    if command <= WORK {
-        return call(console, room, board, sizes, rules, command, numbers);
-    }
-    if command <= SET_BYTE {
-        return setup::set(console, room, board, sizes, rules, command, numbers);
-    }
-    if command <= SET_RULE {
-        let desk = fields::set(room.desk, command, numbers);
-        text(console, b"set\n");
-        return with_desk(room, desk);
-    }
-    look(console, room, board, sizes, rules, command, at(numbers, 0));
-    room
+) -> Desk {
+    let length = room.board_length.min(board.len());
+    let mut parts = Parts {
+        desk: room.desk,
+        board: &mut board[..length],
+        sizes: in_use(sizes, room.sizes_count),
+        rules: in_use(rules, room.rules_count),
+    };
+    perform(console, &mut parts, command, numbers, room.watched);
+    parts.desk
 }
 
-fn call(
-    console: &Console,
-    room: Room,
-    board: &mut [u8],
-    sizes: &[u8],
-    rules: &[u16],
-    command: usize,
-    numbers: &[u32],
-) -> Room {
-    let b = least(room.board_length, board.len());
-    let s = least(room.sizes_count, sizes.len());
-    let r = least(room.rules_count, rules.len());
+// To what is supplied the room itself has seen.
+fn perform(console: &Console, parts: &mut Parts, command: Command, numbers: &[u32], watched: bool) {
     let asked = Asked {
         seat: at(numbers, 0),
         feature: at(numbers, 1),
         option: at(numbers, 2),
     };
-    let desk = make(
-        console,
-        room,
-        &mut board[0..b],
-        &sizes[0..s],
-        &rules[0..r],
-        command,
-        asked,
-    );
-    with_desk(room, desk)
-}
-
-fn make(
-    console: &Console,
-    room: Room,
-    board: &mut [u8],
-    sizes: &[u8],
-    rules: &[u16],
-    command: usize,
-    asked: Asked,
-) -> desk::Desk {
-    if command == WORK {
-        return work::work(console, room.desk, board, sizes, rules, asked, room.watched);
-    }
-    calls::call(console, room.desk, board, sizes, rules, command, asked)
-}
-
-fn with_desk(room: Room, desk: desk::Desk) -> Room {
-    Room { desk, ..room }
-}
-
-fn look(
-    console: &Console,
-    room: Room,
-    board: &[u8],
-    sizes: &[u8],
-    rules: &[u16],
-    command: usize,
-    seat: u32,
-) {
-    let lent = between(board, 0, room.board_length);
     match command {
-        SEAT => showing::seat(console, room.desk, seat as usize),
-        DESK => showing::desk(console, room.desk),
-        SHARE => shown::share(console, lent, seat),
-        LIST => list(console, room, lent, sizes, rules, seat),
-        CATALOGUE | NUMBERS => write_out(console, room, sizes, rules, command),
-        DIGEST => digest::digest(console, room.desk, lent),
-        HELP => help::help(console),
-        _ => {}
+        Command::Change(change) => calls::change(console, parts, change, asked),
+        Command::Question(question) => calls::question(console, parts, question, asked),
+        Command::Turns => calls::turns(console, parts, asked),
+        Command::Work => work::make_ready(console, parts, asked, watched),
+        Command::SetNext => {
+            parts.desk.next = byte(asked.seat);
+            text(console, b"set\n");
+        }
+        Command::SetSeat(field) => {
+            fields::set(&mut parts.desk, field, numbers);
+            text(console, b"set\n");
+        }
+        Command::View(view) => show(console, parts, view, asked.seat),
+        Command::Supply(_) | Command::Quit | Command::Exit => {}
     }
 }
 
-// The catalogue, as rules or as numbers.
-fn write_out(console: &Console, room: Room, sizes: &[u8], rules: &[u16], command: usize) {
-    let s = least(room.sizes_count, sizes.len());
-    let r = least(room.rules_count, rules.len());
-    if command == CATALOGUE {
-        written::catalogue(console, &sizes[0..s], &rules[0..r]);
-    } else {
-        written::numbers(console, &sizes[0..s], &rules[0..r]);
+fn show(console: &Console, parts: &Parts, view: View, seat: u32) {
+    let desk = parts.desk;
+    match view {
+        View::Seat => showing::seat(console, desk, seat as usize),
+        View::Desk => showing::desk(console, desk),
+        View::Share => shown::share(console, parts.board, seat),
+        View::List => list::list(console, parts, seat),
+        View::Catalogue => written::catalogue(console, parts.sizes, parts.rules),
+        View::Numbers => written::numbers(console, parts.sizes, parts.rules),
+        View::Digest => digest::digest(console, desk, parts.board),
+        View::Help => help::help(console),
     }
-}
-
-fn list(console: &Console, room: Room, board: &[u8], sizes: &[u8], rules: &[u16], seat: u32) {
-    let s = least(room.sizes_count, sizes.len());
-    let r = least(room.rules_count, rules.len());
-    list::list(console, room.desk, board, &sizes[0..s], &rules[0..r], seat);
 }

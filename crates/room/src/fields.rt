@@ -1,82 +1,49 @@
-// The desk's fields, set by hand to anything.
+// The fields of a seat's record, set by hand to anything.
 use desk::Desk;
-use lines::at;
-use lines::commands::{
-    SET_ALTERNATIVES, SET_CHOICE, SET_CLOSED, SET_MASK, SET_NEXT, SET_READY, SET_RULE, SET_WORK,
-};
+use lines::commands::Field;
+use lines::{at, byte};
 use seat::{Place, Seat, State};
 
-pub fn set(desk: Desk, command: usize, numbers: &[u32]) -> Desk {
-    let c = at(numbers, 0) as usize;
-    let seats = desk.seats;
-    if command == SET_NEXT {
-        let next = byte(numbers, 0);
-        return Desk { seats, next };
-    }
-    if 8 <= c {
-        return desk;
-    }
-    let seat = set_seat(seats[c], command, numbers);
-    with_seat(desk, c, seat)
-}
-
-fn set_seat(seat: Seat, command: usize, numbers: &[u32]) -> Seat {
-    match command {
-        SET_CLOSED => with_state(seat, State::Closed),
-        SET_READY => with_state(seat, State::Ready),
-        SET_WORK => with_state(seat, State::AtWork(place(numbers))),
-        SET_RULE => with_rule(seat, byte(numbers, 1)),
-        _ => with_entry(seat, command, numbers),
+// A seat that is not there is left out, and so is a feature.
+pub fn set(desk: &mut Desk, field: Field, numbers: &[u32]) {
+    if let Some(seat) = desk.seats.get_mut(at(numbers, 0) as usize) {
+        set_field(seat, field, numbers);
     }
 }
 
-fn with_entry(seat: Seat, command: usize, numbers: &[u32]) -> Seat {
-    let mut changed = seat;
-    let i = at(numbers, 1) as usize;
-    if 16 <= i {
-        return changed;
+fn set_field(seat: &mut Seat, field: Field, numbers: &[u32]) {
+    match field {
+        Field::Closed => seat.state = State::Closed,
+        Field::Ready => seat.state = State::Ready,
+        Field::Work => seat.state = State::AtWork(place(numbers)),
+        Field::Choice => put(&mut seat.choices, numbers, entry(numbers)),
+        Field::Mask => put(&mut seat.masks, numbers, mask(numbers)),
+        Field::Alternatives => put(&mut seat.alternatives, numbers, mask(numbers)),
+        Field::Trial => put(&mut seat.trial, numbers, entry(numbers)),
+        Field::Rule => seat.broken = byte(at(numbers, 1)),
     }
-    match command {
-        SET_CHOICE => changed.choices[i] = byte(numbers, 2),
-        SET_MASK => changed.masks[i] = mask(numbers),
-        SET_ALTERNATIVES => changed.alternatives[i] = mask(numbers),
-        _ => changed.trial[i] = byte(numbers, 2),
-    }
-    changed
 }
 
-fn with_state(seat: Seat, state: State) -> Seat {
-    Seat { state, ..seat }
-}
-
-fn with_rule(seat: Seat, rule: u8) -> Seat {
-    let mut changed = seat;
-    changed.broken = rule;
-    changed
-}
-
-fn with_seat(desk: Desk, c: usize, seat: Seat) -> Desk {
-    let mut seats = desk.seats;
-    if c < 8 {
-        seats[c] = seat;
+// A value of the feature that the numbers name.
+fn put<T: Copy>(values: &mut [T], numbers: &[u32], value: T) {
+    if let Some(old) = values.get_mut(at(numbers, 1) as usize) {
+        *old = value;
     }
-    let next = desk.next;
-    Desk { seats, next }
 }
 
 fn place(numbers: &[u32]) -> Place {
     Place {
-        feature: byte(numbers, 1),
-        option: byte(numbers, 2),
-        depth: byte(numbers, 3),
-        next: byte(numbers, 4),
+        feature: byte(at(numbers, 1)),
+        option: byte(at(numbers, 2)),
+        depth: byte(at(numbers, 3)),
+        next: byte(at(numbers, 4)),
     }
+}
+
+fn entry(numbers: &[u32]) -> u8 {
+    byte(at(numbers, 2))
 }
 
 fn mask(numbers: &[u32]) -> u16 {
     (at(numbers, 2) % 65536) as u16
-}
-
-fn byte(numbers: &[u32], i: usize) -> u8 {
-    (at(numbers, i) % 256) as u8
 }

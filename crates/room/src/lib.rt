@@ -6,15 +6,15 @@ mod commands;
 mod digest;
 mod fields;
 mod list;
+mod parts;
 mod setup;
 mod showing;
 mod work;
 
-pub use commands::obey;
 use desk::Desk;
-pub use setup::trolley;
 
 // The lent memory has room for more than is in use: a board of `board_length` bytes, and so on.
+// Stays: no heap, so a list in use is a count of what is lent.
 #[derive(Clone, Copy)]
 pub struct Room {
     pub desk: Desk,
@@ -22,4 +22,12 @@ pub struct Room {
     pub sizes_count: usize,
     pub rules_count: usize,
     pub watched: bool, // by a person at a terminal
+}
+
+// The memory that board, sizes and rules stand in.
+#[derive(Drop)]
+pub struct Lent<'a> {
+    pub board: &'a mut [u8],
+    pub sizes: &'a mut [u8],
+    pub rules: &'a mut [u16],
 }

@@ -1,89 +1,89 @@
 // The start state, and what sets catalogue and board.
-use crate::Room;
+use crate::parts::in_use;
+use crate::{Lent, Room};
 use desk::Desk;
-use lines::commands::{BOARD, MORE, RULES, SET_BYTE, SIZES};
-use lines::{
-    Console, around, at, between, byte, fill, least, put_rules, put_sizes, set_byte, text,
-};
+use lines::commands::Supply;
+use lines::{Console, around, at, byte, fill, put_rules, put_sizes, set_byte, text};
 
+// Stays: the program trolley has this catalogue too, as the desk takes it, and here it is as a line gives it. A crate that
+// both stand on would be no plainer than these three lines.
 const TROLLEY_SIZES: [u32; 3] = [3, 3, 2];
 // rule A on features 0, 1: (0,1) (1,0) (1,2) (2,1); rule B on features 1, 2: (0,0) (1,1) (2,0) (2,1)
 const TROLLEY_RULES: [u32; 24] = [
     2, 4, 0, 1, 0, 1, 1, 0, 1, 2, 2, 1, 2, 4, 1, 2, 0, 0, 1, 1, 2, 0, 2, 1,
 ];
 
-// The start state.
-pub fn trolley(board: &mut [u8], sizes: &mut [u8], rules: &mut [u16], watched: bool) -> Room {
-    fill(board, 32768, 255);
-    let sizes_count = put_sizes(sizes, &TROLLEY_SIZES);
-    let rules_count = put_rules(rules, 0, &TROLLEY_RULES);
-    let closed = seat::closed();
-    Room {
-        desk: Desk {
-            seats: [closed; 8],
-            next: 0,
-        },
-        board_length: 32768,
-        sizes_count,
-        rules_count,
-        watched,
+impl Room {
+    // The start state.
+    pub fn trolley(lent: &mut Lent, watched: bool) -> Room {
+        fill(lent.board, 32768, 255);
+        Room {
+            desk: Desk {
+                seats: [seat::closed(); 8],
+                next: 0,
+            },
+            board_length: 32768,
+            sizes_count: put_sizes(lent.sizes, &TROLLEY_SIZES),
+            rules_count: put_rules(lent.rules, 0, &TROLLEY_RULES),
+            watched,
+        }
+    }
+
+    pub(crate) fn supply(
+        &mut self,
+        console: &Console,
+        lent: &mut Lent,
+        supply: Supply,
+        numbers: &[u32],
+    ) {
+        match supply {
+            Supply::Trolley => {
+                text(console, b"the trolley, eight seats closed\n");
+                *self = Room::trolley(lent, self.watched);
+            }
+            Supply::Sizes => self.set_sizes(console, lent, numbers),
+            Supply::Rules => self.add_rules(console, lent, 0, numbers),
+            Supply::More => self.add_rules(console, lent, self.rules_count, numbers),
+            Supply::Board => self.set_board(console, lent, at(numbers, 0), at(numbers, 1)),
+            Supply::SetByte => set_byte(console, lent.board, at(numbers, 0), at(numbers, 1)),
+        }
+    }
+
+    fn set_sizes(&mut self, console: &Console, lent: &mut Lent, numbers: &[u32]) {
+        self.sizes_count = put_sizes(lent.sizes, numbers);
+        let good = written::sizes(console, in_use(lent.sizes, self.sizes_count));
+        say_open(console, self.desk, good);
+    }
+
+    // The rule list up to a place, and the numbers after it.
+    fn add_rules(&mut self, console: &Console, lent: &mut Lent, from: usize, numbers: &[u32]) {
+        self.rules_count = put_rules(lent.rules, from, numbers);
+        let good = are_good(console, *self, lent);
+        say_open(console, self.desk, good);
+    }
+
+    fn set_board(&mut self, console: &Console, lent: &mut Lent, length: u32, value: u32) {
+        self.board_length = length as usize;
+        fill(lent.board, self.board_length, byte(value));
+        around(console, b"board: ", length as u64, b" bytes of ");
+        around(console, b"", value as u64, b"\n");
     }
 }
 
-pub fn set(
-    console: &Console,
-    room: Room,
-    board: &mut [u8],
-    sizes: &mut [u8],
-    rules: &mut [u16],
-    command: usize,
-    numbers: &[u32],
-) -> Room {
-    match command {
-        SIZES => set_sizes(console, room, sizes, numbers),
-        RULES => add_rules(console, room, 0, sizes, rules, numbers),
-        MORE => add_rules(console, room, room.rules_count, sizes, rules, numbers),
-        BOARD => set_board(console, room, board, at(numbers, 0), at(numbers, 1)),
-        SET_BYTE => {
-            set_byte(console, board, at(numbers, 0), at(numbers, 1));
-            room
-        }
-        _ => {
-            text(console, b"the trolley, eight seats closed\n");
-            trolley(board, sizes, rules, room.watched)
-        }
-    }
-}
-
-fn set_sizes(console: &Console, room: Room, sizes: &mut [u8], numbers: &[u32]) -> Room {
-    let mut changed = room;
-    changed.sizes_count = put_sizes(sizes, numbers);
-    let good = written::sizes(console, between(sizes, 0, changed.sizes_count));
-    say_open(console, room.desk, good);
-    changed
-}
-
-// The rule list up to a place, and the numbers after it.
-fn add_rules(
-    console: &Console,
-    room: Room,
-    from: usize,
-    sizes: &[u8],
-    rules: &mut [u16],
-    numbers: &[u32],
-) -> Room {
-    let mut changed = room;
-    let count = put_rules(rules, from, numbers);
-    changed.rules_count = count;
-    let r = least(count, rules.len());
-    let good = written::rules(console, between(sizes, 0, room.sizes_count), &rules[0..r]);
-    say_open(console, room.desk, good);
-    changed
+// Writes out what the rules are, or their fault; answers whether they have none.
+fn are_good(console: &Console, room: Room, lent: &Lent) -> bool {
+    let sizes = &*lent.sizes;
+    let rules = &*lent.rules;
+    written::rules(
+        console,
+        in_use(sizes, room.sizes_count),
+        in_use(rules, room.rules_count),
+    )
 }
 
 // A new catalogue leaves the desk as it is, and one with a fault is not opened.
 fn say_open(console: &Console, desk: Desk, good: bool) {
-    if !some_open(desk) {
+    if desk.seats.iter().all(|seat| look::is_closed(*seat)) {
         return;
     }
     text(console, b"seats are still open on the old catalogue; ");
@@ -91,25 +91,4 @@ fn say_open(console: &Console, desk: Desk, good: bool) {
         text(console, b"mend the fault, then ");
     }
     text(console, b"open begins anew\n");
-}
-
-fn some_open(desk: Desk) -> bool {
-    let seats = desk.seats;
-    let mut c = 0usize;
-    while c < 8 {
-        if !look::is_closed(seats[c]) {
-            return true;
-        }
-        c += 1;
-    }
-    false
-}
-
-fn set_board(console: &Console, room: Room, board: &mut [u8], length: u32, value: u32) -> Room {
-    let mut changed = room;
-    changed.board_length = length as usize;
-    fill(board, length as usize, byte(value));
-    around(console, b"board: ", length as u64, b" bytes of ");
-    around(console, b"", value as u64, b"\n");
-    changed
 }

@@ -5,18 +5,15 @@ use shown::record;
 
 pub fn desk(console: &Console, desk: Desk) {
     around(console, b"next ", desk.next as u64, b"\n");
-    let mut c = 0usize;
-    while c < 8 {
+    for c in 0..desk.seats.len() {
         seat(console, desk, c);
-        c += 1;
     }
 }
 
+// Nothing where there is no such seat.
 pub fn seat(console: &Console, desk: Desk, c: usize) {
-    if 8 <= c {
-        return;
+    if let Some(seat) = desk.seats.get(c) {
+        around(console, b"seat ", c as u64, b": ");
+        record(console, *seat);
     }
-    let seats = desk.seats;
-    around(console, b"seat ", c as u64, b": ");
-    record(console, seats[c]);
 }

@@ -1,6 +1,5 @@
 // Turns in portions until a seat is ready.
-use crate::calls::{left, lengths};
-use desk::Desk;
+use crate::parts::Parts;
 use lines::{Console, around, asked_to_stop, counted, report, text};
 use look::is_at_work;
 use seat::Seat;
@@ -9,154 +8,113 @@ use shown::{Asked, nothing_left, pair, refused};
 // The most turns that one call makes.
 const PORTION: u16 = 65535;
 
+// The number that refuses to read a seat at work.
+pub const AT_WORK: u8 = 33;
+
+// The work for one seat so far.
 #[derive(Clone, Copy)]
-struct Worked {
-    desk: Desk,
+struct Work {
+    seat: u32,
     turns: u64,
     portions: u64,
-    stopped: bool,
     watched: bool, // by a person
     shown: bool, // whether a line says how far it is
 }
 
-pub fn work(
-    console: &Console,
-    desk: Desk,
-    board: &mut [u8],
-    sizes: &[u8],
-    rules: &[u16],
-    asked: Asked,
-    watched: bool,
-) -> Desk {
-    let first = left(desk, board, sizes, rules, asked.seat, 0);
-    let refusal = first.number;
-    if refusal != 0 {
-        if refusal != 33 {
-            refused(console, refusal, lengths(board, sizes, rules), asked);
-            text(console, b"\n");
-            return desk;
-        }
+pub fn make_ready(console: &Console, parts: &mut Parts, asked: Asked, watched: bool) {
+    let refusal = parts.left(asked.seat, 0).number;
+    if refusal != 0 && refusal != AT_WORK {
+        refused(console, refusal, parts.lengths(), asked);
+        text(console, b"\n");
+        return;
     }
-    let start = Worked {
-        desk,
+    let mut work = Work {
+        seat: asked.seat,
         turns: 0,
         portions: 0,
-        stopped: false,
         watched,
         shown: false,
     };
-    let worked = reported(console, start, board, sizes, rules, asked.seat);
-    ended(console, worked, sizes, asked.seat);
-    worked.desk
+    work.run(console, parts);
+    work.end(console, parts);
 }
 
-// A stop that was asked for before is none of this work's.
-fn reported(
-    console: &Console,
-    start: Worked,
-    board: &mut [u8],
-    sizes: &[u8],
-    rules: &[u16],
-    seat: u32,
-) -> Worked {
-    if start.watched {
-        asked_to_stop(console);
-    }
-    report(console, b"working\n");
-    let work = until_ready(console, start, board, sizes, rules, seat);
-    report(console, b"resting\n");
-    work
-}
-
-// No count is known beforehand, so the loop counts down from a number that no run uses up.
-fn until_ready(
-    console: &Console,
-    start: Worked,
-    board: &mut [u8],
-    sizes: &[u8],
-    rules: &[u16],
-    seat: u32,
-) -> Worked {
-    let mut work = start;
-    let mut left = u64::MAX;
-    while 0 < left {
-        if is_over(work, seat) {
-            return work;
+impl Work {
+    // A stop that was asked for before is none of this work's.
+    fn run(&mut self, console: &Console, parts: &mut Parts) {
+        if self.watched {
+            asked_to_stop(console);
         }
-        work = watch(console, portion(work, board, sizes, rules), sizes, seat);
-        left -= 1;
+        report(console, b"working\n");
+        self.until_ready(console, parts);
+        report(console, b"resting\n");
     }
-    work
-}
 
-fn is_over(work: Worked, seat: u32) -> bool {
-    if work.stopped {
-        return true;
+    // No count is known beforehand, so the loop has a number of turns that no run uses up.
+    fn until_ready(&mut self, console: &Console, parts: &mut Parts) {
+        for _ in 0..u64::MAX {
+            if !is_at_work(parts.record(self.seat)) {
+                return;
+            }
+            let refused = self.is_refused(parts);
+            if self.is_stopped(console, parts) || refused {
+                return;
+            }
+        }
     }
-    !is_at_work(record_of(work.desk, seat))
-}
 
-// After the first look nothing refuses these turns; if something did, it would be the end.
-fn portion(work: Worked, board: &mut [u8], sizes: &[u8], rules: &[u16]) -> Worked {
-    let turned = desk::turns(work.desk, board, sizes, rules, PORTION);
-    let desk = turned.desk;
-    Worked {
-        desk,
-        turns: work.turns.wrapping_add(turned.made as u64),
-        portions: work.portions.wrapping_add(1),
-        stopped: turned.number != 0,
-        watched: work.watched,
-        shown: work.shown,
+    // Makes a portion of turns. After the first look nothing refuses them; if something did, it would be the end.
+    fn is_refused(&mut self, parts: &mut Parts) -> bool {
+        let turned = parts.turn(PORTION);
+        self.turns = self.turns.wrapping_add(turned.made as u64);
+        self.portions = self.portions.wrapping_add(1);
+        turned.number != 0
     }
-}
 
-// Shows a person how far it is, and looks whether to stop.
-fn watch(console: &Console, work: Worked, sizes: &[u8], seat: u32) -> Worked {
-    if !work.watched {
-        return work;
+    // Shows a person how far it is, and looks whether to stop.
+    fn is_stopped(&mut self, console: &Console, parts: &Parts) -> bool {
+        if !self.watched {
+            return false;
+        }
+        self.show(console, parts);
+        asked_to_stop(console)
     }
-    let mut seen = show(console, work, record_of(work.desk, seat), sizes);
-    if asked_to_stop(console) {
-        seen.stopped = true;
-    }
-    seen
-}
 
-// Every so often, while there is something to show.
-fn show(console: &Console, work: Worked, record: Seat, sizes: &[u8]) -> Worked {
-    let mut shown = work;
-    if work.portions % 8 == 0 {
+    // Every so often, while there is something to show.
+    fn show(&mut self, console: &Console, parts: &Parts) {
+        let record = parts.record(self.seat);
+        if self.portions % 8 == 0 && is_at_work(record) {
+            self.write_over(console);
+            pair(console, record, parts.sizes);
+            around(console, b", ", self.turns, b" turns so far\n");
+            self.shown = true;
+        }
+    }
+
+    // What was shown is a whole line, which a line editor lets through at once: one line up, and all from there on
+    // erased.
+    fn write_over(&self, console: &Console) {
+        if self.shown {
+            text(console, b"\x1b[A\r\x1b[J");
+        }
+    }
+
+    fn end(&self, console: &Console, parts: &Parts) {
+        let record = parts.record(self.seat);
+        let seat = self.seat as u64;
+        self.write_over(console);
         if is_at_work(record) {
-            write_over(console, work.shown);
-            pair(console, record, sizes);
-            around(console, b", ", work.turns, b" turns so far\n");
-            shown.shown = true;
+            around(console, b"stopped: seat ", seat, b" is at work: ");
+            pair(console, record, parts.sizes);
+        } else {
+            around(console, b"seat ", seat, b" is ready");
         }
-    }
-    shown
-}
-
-// What was shown is a whole line, which a line editor lets through at once: one line up, and all from there on erased.
-fn write_over(console: &Console, shown: bool) {
-    if shown {
-        text(console, b"\x1b[A\r\x1b[J");
-    }
-}
-
-fn ended(console: &Console, work: Worked, sizes: &[u8], seat: u32) {
-    let record = record_of(work.desk, seat);
-    write_over(console, work.shown);
-    if is_at_work(record) {
-        around(console, b"stopped: seat ", seat as u64, b" is at work: ");
-        pair(console, record, sizes);
-    } else {
-        around(console, b"seat ", seat as u64, b" is ready");
-    }
-    text(console, b" after ");
-    counted(console, work.turns, b"turn");
-    text(console, b"\n");
-    if !is_at_work(record) {
-        no_product(console, record, sizes);
+        text(console, b" after ");
+        counted(console, self.turns, b"turn");
+        text(console, b"\n");
+        if !is_at_work(record) {
+            no_product(console, record, parts.sizes);
+        }
     }
 }
 
@@ -164,11 +122,4 @@ pub fn no_product(console: &Console, record: Seat, sizes: &[u8]) {
     if nothing_left(record, sizes.len()) {
         text(console, b"no product satisfies these rules\n");
     }
-}
-
-// Of a seat that a call has found to be there.
-pub fn record_of(desk: Desk, seat: u32) -> Seat {
-    let seats = desk.seats;
-    let c = (seat % 8) as usize;
-    seats[c]
 }

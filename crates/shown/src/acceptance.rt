@@ -1,19 +1,19 @@
 // The words of an accepted call.
 use crate::refusal::{Asked, option_of_feature};
-use lines::commands::{CHOOSE, ENTER, LEAVE, OPEN};
+use lines::commands::Change;
 use lines::{Console, around, number, text};
 
-pub fn accepted(console: &Console, command: usize, asked: Asked) {
+pub fn accepted(console: &Console, change: Change, asked: Asked) {
     let seat = asked.seat as u64;
-    match command {
-        OPEN => text(console, b"opened: eight seats, all closed\n"),
-        ENTER => around(console, b"seat ", seat, b" has entered and is at work\n"),
-        LEAVE => around(console, b"seat ", seat, b" has left\n"),
-        CHOOSE => {
+    match change {
+        Change::Open => text(console, b"opened: eight seats, all closed\n"),
+        Change::Enter => around(console, b"seat ", seat, b" has entered and is at work\n"),
+        Change::Leave => around(console, b"seat ", seat, b" has left\n"),
+        Change::Choose => {
             around(console, b"seat ", seat, b" chose ");
             option_of_feature(console, asked, b" and is at work\n");
         }
-        _ => {
+        Change::Relax => {
             around(console, b"seat ", seat, b" dropped its choice of feature ");
             number(console, asked.feature as u64);
             text(console, b" and is at work\n");

@@ -1,0 +1,90 @@
+// The desk, and just as much of the lent memory as is in use: what the desk's calls get.
+use desk::{Changed, Desk, Left, Ran, Turned};
+use lines::commands::Change;
+use seat::Seat;
+use shown::{Asked, Lengths};
+
+#[derive(Drop)]
+pub struct Parts<'a> {
+    pub desk: Desk,
+    pub board: &'a mut [u8],
+    pub sizes: &'a [u8],
+    pub rules: &'a [u16],
+}
+
+impl Parts<'_> {
+    pub fn change(&mut self, change: Change, asked: Asked) -> Changed {
+        let desk = self.desk;
+        let c = asked.seat as usize;
+        let i = asked.feature as usize;
+        let a = asked.option as usize;
+        match change {
+            Change::Open => desk::open(self.board, self.sizes, self.rules),
+            Change::Enter => desk::enter(desk, self.board, self.sizes, self.rules, c),
+            Change::Leave => desk::leave(desk, self.board, self.sizes, self.rules, c),
+            Change::Choose => desk::choose(desk, self.board, self.sizes, self.rules, c, i, a),
+            Change::Relax => desk::relax(desk, self.board, self.sizes, self.rules, c, i),
+        }
+    }
+
+    // The desk goes on from where the turns leave it.
+    pub fn turn(&mut self, w: u16) -> Turned {
+        let turned = desk::turns(self.desk, self.board, self.sizes, self.rules, w);
+        self.desk = turned.desk;
+        turned
+    }
+
+    pub fn left(&self, seat: u32, feature: u32) -> Left {
+        let i = feature as usize;
+        desk::options(
+            self.desk,
+            self.board,
+            self.sizes,
+            self.rules,
+            seat as usize,
+            i,
+        )
+    }
+
+    pub fn alternatives(&self, asked: Asked) -> Left {
+        let c = asked.seat as usize;
+        let i = asked.feature as usize;
+        desk::alternatives(self.desk, self.board, self.sizes, self.rules, c, i)
+    }
+
+    pub fn example_number(&self, asked: Asked) -> u8 {
+        let c = asked.seat as usize;
+        let i = asked.feature as usize;
+        let a = asked.option as usize;
+        desk::example_number(self.desk, self.board, self.sizes, self.rules, c, i, a)
+    }
+
+    pub fn example(&self, asked: Asked) -> &[u8] {
+        let c = asked.seat as usize;
+        let i = asked.feature as usize;
+        let a = asked.option as usize;
+        desk::example(self.desk, self.board, self.sizes, self.rules, c, i, a)
+    }
+
+    pub fn ran_into(&self, seat: u32) -> Ran {
+        desk::ran_into(self.desk, self.board, self.sizes, self.rules, seat as usize)
+    }
+
+    pub fn lengths(&self) -> Lengths {
+        Lengths {
+            board: self.board.len(),
+            sizes: self.sizes.len(),
+            rules: self.rules.len(),
+        }
+    }
+
+    // Of a seat that a call has found to be there.
+    pub fn record(&self, seat: u32) -> Seat {
+        self.desk.seats[(seat % 8) as usize]
+    }
+}
+
+// As much of a list as is in use.
+pub fn in_use<T>(all: &[T], count: usize) -> &[T] {
+    &all[..count.min(all.len())]
+}
