@@ -1,5 +1,5 @@
 // Words and numbers in bytes. Every place is held to what is there, so no caller has to show that it is.
-ghost use Rattle.std.specs.Prelude.{◌≤◌, length};
+ghost use Rattle.std.specs.Prelude.{◌≡◌, ◌≤◌, length, min, slice_range};
 
 pub fn least(a: usize, b: usize) -> usize
     ensures { (result ≤ a) × (result ≤ b) }
@@ -8,7 +8,9 @@ pub fn least(a: usize, b: usize) -> usize
 }
 
 // What stands from one place up to another.
-pub fn between<T>(all: &[T], from: usize, to: usize) -> &[T] {
+pub fn between<T>(all: &[T], from: usize, to: usize) -> &[T]
+    ensures { result.now ≡ slice_range all.now (min from (min to (length all.now))) (min to (length all.now)) }
+{
     let end = to.min(all.len());
     &all[from.min(end)..end]
 }

@@ -1,4 +1,6 @@
 // What the console writes.
+ghost use Rattle.std.specs.Prelude.{◌≡◌, Some, None};
+
 use crate::console::Console;
 use std::fmt::{Display, Formatter};
 use std::io::Write;
@@ -79,13 +81,19 @@ pub struct Spaced<'a, T> {
 }
 
 impl<'a, T> Spaced<'a, T> {
-    pub fn all(list: &'a [T]) -> Spaced<'a, T> {
+    pub fn all(list: &'a [T]) -> Spaced<'a, T>
+        ensures whole { result.list.now ≡ list.now }
+        ensures no_none { result.none ≡ None }
+    {
         Spaced { list, none: None }
     }
 }
 
 impl<'a> Spaced<'a, u8> {
-    pub fn entries(list: &'a [u8]) -> Spaced<'a, u8> {
+    pub fn entries(list: &'a [u8]) -> Spaced<'a, u8>
+        ensures whole { result.list.now ≡ list.now }
+        ensures none { result.none ≡ Some 255 }
+    {
         Spaced {
             list,
             none: Some(255),

@@ -2,8 +2,8 @@
 // feature 2 and is turned again; then it prints a line for each feature: its number, the options left, their count.
 #![tactic(auto)]
 
-use desk::Desk;
-use std::io;
+use std::fmt::{Display, Formatter};
+use std::{fmt, io};
 
 const SIZES: [u8; 3] = [3, 3, 2];
 // rule A on features 0, 1: (0,1) (1,0) (1,2) (2,1); rule B on features 1, 2: (0,0) (1,1) (2,0) (2,1)
@@ -19,35 +19,29 @@ fn main(rt: HostRuntime) -> io::Result<()> {
     let chosen = desk::choose(ready.desk, &mut board, &SIZES, &RULES, 3, 2, 0);
     let again = desk::turns(chosen.desk, &mut board, &SIZES, &RULES, 65535);
     for i in 0..SIZES.len() {
-        list(&rt, again.desk, &board, &SIZES, &RULES, i)?;
+        let left = desk::options(again.desk, &board, &SIZES, &RULES, 3, i);
+        let options = Options(left.mask);
+        let count = left.count;
+        println!(rt; "{i} {options} {count}")?;
     }
     Ok(())
 }
 
-fn list(
-    rt: &impl Print,
-    desk: Desk,
-    board: &[u8],
-    sizes: &[u8],
-    rules: &[u16],
-    i: usize,
-) -> io::Result<()> {
-    let left = desk::options(desk, board, sizes, rules, 3, i);
-    print!(rt; "{i} ")?;
-    print_options(rt, left.mask)?;
-    let count = left.count;
-    println!(rt; " {count}")
-}
+// The options of a mask joined by commas, "-" if none.
+#[derive(Clone, Copy)]
+struct Options(u16);
 
-// The options left joined by commas, "-" if none.
-fn print_options(rt: &impl Print, mask: u16) -> io::Result<()> {
-    if mask == 0 {
-        return print!(rt; "-");
+impl Display for Options {
+    fn fmt<W: fmt::Write>(&self, f: &mut Formatter<W>) -> fmt::Result {
+        let mask = self.0;
+        if mask == 0 {
+            return f.write_str("-");
+        }
+        let first = mask.trailing_zeros();
+        for a in (first..16).filter(|a| mask >> *a & 1 == 1) {
+            let comma = if a == first { "" } else { "," };
+            write!(f, "{comma}{a}")?;
+        }
+        Ok(())
     }
-    let first = mask.trailing_zeros();
-    for a in (first..16).filter(|a| mask >> *a & 1 == 1) {
-        let comma = if a == first { "" } else { "," };
-        print!(rt; "{comma}{a}")?;
-    }
-    Ok(())
 }
