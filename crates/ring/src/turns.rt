@@ -12,7 +12,7 @@ ghost use Rattle.runs.specs.Perform.{done};
 ghost use Rattle.runs.specs.Room.{room_of};
 ghost use Rattle.runs.specs.Turn.{is_some};
 
-use crate::marks::{Found, first_at_work, is_someone, seats_at_work, with_mark};
+use crate::marks::{first_at_work, seats_at_work, with_mark};
 use look::is_at_work;
 use runs::{Desk, Turned};
 use search::Seat;
@@ -32,10 +32,9 @@ pub fn make_turns(desk: Desk, board: &mut [u8], sizes: &[u8], rules: &[u16], w: 
     let mut seats = desk.seats;
     let mut next = desk.next;
     let mut working = seats_at_work(seats);
-    let mut made = 0u16;
-    while made < w {
-        let Found::At(c) = first_at_work(working, next as usize) else {
-            break;
+    for made in 0..w {
+        let Some(c) = first_at_work(working, next as usize) else {
+            return turned(made, working, Desk { seats, next });
         };
         let from = c * 4096;
         let share = &mut board[from..from + 4096];
@@ -43,14 +42,13 @@ pub fn make_turns(desk: Desk, board: &mut [u8], sizes: &[u8], rules: &[u16], w: 
         let after = (c + 1) % 8;
         seats[c] = seat;
         next = after as u8;
-        made += 1;
         // A mark is touched only where a job has ended: made anew at every step, it would keep the next turn waiting.
         if is_at_work(seat) {
             continue;
         }
         working = with_mark(working, c, false);
     }
-    turned(made, working, Desk { seats, next })
+    turned(w, working, Desk { seats, next })
 }
 
 // The answer of an accepted call.
@@ -67,7 +65,7 @@ fn turned(made: u16, working: u8, desk: Desk) -> Turned
     Turned {
         number: 0,
         made,
-        working: is_someone(found),
+        working: found.is_some(),
         desk,
     }
 }

@@ -13,10 +13,8 @@ ghost use Rattle.search.specs.Inner.Placed.{kept_before, PlacedAt};
 ghost use Rattle.step.specs.Inner.StepContracts.{tried_of, depth_in, StepNeeds, Stepped, TryNeeds, ComesTo};
 
 use arrays::{masks_after, trial_after};
-use numbers::byte;
-use placed::Tested;
 use search::{Place, Seat, State};
-use seat::{Next, first_candidate, next_candidate, started, write_example};
+use seat::{first_candidate, next_candidate, started, write_example};
 
 // What comes of trying an option.
 #[derive(Drop)]
@@ -26,14 +24,20 @@ pub enum Way {
     Exhausted,
 }
 
-// What a step comes to: the state after it, the depth before which options stay placed, and what a build that was found
-// shows of the pair's option.
+// What a step shows of the pair's option.
+#[derive(Clone, Copy, PartialEq, Eq)]
+pub enum Shown {
+    Nothing, // no build was found
+    Left, // it is left, and the build that was found was written as its example
+    Alternative, // it could replace the choice of its feature, and no example was written
+}
+
+// What a step comes to: the state after it, the depth before which options stay placed, and what it shows.
 #[derive(Drop)]
 pub struct After {
     pub state: State,
     pub depth: u8,
-    pub left: bool, // it is left, and the build was written as its example
-    pub alternative: bool, // it could replace the choice of its feature, and no example was written
+    pub shown: Shown,
 }
 
 // One step: record and share of the written search after it. A seat that is not at work makes none.
@@ -88,12 +92,14 @@ fn step_at(
     let tested = tested_at(j, build, sizes, rules, places, counts);
     let after = after_step(place, tested, &choices, build, share, sizes, rules);
     let state = after.state;
+    let left = after.shown == Shown::Left;
+    let alternative = after.shown == Shown::Alternative;
     Seat {
         state,
         choices,
-        masks: masks_after(masks, place.feature, place.option, after.left),
+        masks: masks_after(masks, place.feature, place.option, left),
         trial: trial_after(trial, edge, place.depth, place.next, after.depth),
-        alternatives: masks_after(alternatives, place.feature, place.option, after.alternative),
+        alternatives: masks_after(alternatives, place.feature, place.option, alternative),
         broken: broken_after(state, tested, seat.broken),
     }
 }
@@ -107,14 +113,14 @@ fn tested_at(
     rules: &[u16],
     places: &[u16],
     counts: &[u8],
-) -> Tested
+) -> Option<u8>
     requires starts_known { (fault_of (catalogue_of sizes.now rules.now) ≡ 0)
         × AllStarts rules.now places.now counts.now }
     requires sixteen_placed { (j < 16) × (length placed.now ≡ 16) }
     ensures { rule_broken result
         ≡ first_broken (rules_of (catalogue_of sizes.now rules.now)) j placed.now }
 {
-    let count = byte(counts[j]);
+    let count = usize::from(counts[j]);
     let starts = j * 64;
     let numbers = 16 + starts;
     placed::test(
@@ -127,15 +133,15 @@ fn tested_at(
 }
 
 // The last rule broken in this job, after a step to a state: a test that failed names it, and a seat that is ready has none.
-fn broken_after(state: State, tested: Tested, before: u8) -> u8
+fn broken_after(state: State, tested: Option<u8>, before: u8) -> u8
     ensures { result ≡ broken_after state (rule_broken tested) before }
 {
     match state {
         State::Closed => 255,
         State::Ready => 255,
         State::AtWork(_) => match tested {
-            Tested::Passed => before,
-            Tested::Broke(rule) => rule,
+            None => before,
+            Some(rule) => rule,
         },
     }
 }
@@ -144,7 +150,7 @@ fn broken_after(state: State, tested: Tested, before: u8) -> u8
 // the example, but for one at a feature chosen otherwise: its option is no more than an alternative.
 fn after_step(
     place: Place,
-    tested: Tested,
+    tested: Option<u8>,
     choices: &[u8],
     placed: &[u8],
     share: &mut [u8],
@@ -171,20 +177,19 @@ fn after_step(
             After {
                 state,
                 depth,
-                left: false,
-                alternative: false,
+                shown: Shown::Nothing,
             }
         }
         Way::Build => {
             if chosen_otherwise(choices, feature, option) {
-                return pair_ended(sizes, choices, feature, option, false, true);
+                return pair_ended(sizes, choices, feature, option, Shown::Alternative);
             }
             let i = feature as usize;
             let a = option as usize;
             write_example(share, i * 256 + a * 16, placed);
-            pair_ended(sizes, choices, feature, option, true, false)
+            pair_ended(sizes, choices, feature, option, Shown::Left)
         }
-        Way::Exhausted => pair_ended(sizes, choices, feature, option, false, false),
+        Way::Exhausted => pair_ended(sizes, choices, feature, option, Shown::Nothing),
     }
 }
 
@@ -204,7 +209,7 @@ fn chosen_otherwise(choices: &[u8], feature: u8, option: u8) -> bool
 // Rules 3 to 5, by what the test of the option came to.
 fn try_next(
     place: Place,
-    tested: Tested,
+    tested: Option<u8>,
     choices: &[u8],
     placed: &[u8],
     sizes: &[u8],
@@ -220,11 +225,8 @@ fn try_next(
     let option = place.option;
     let i = place.feature as usize;
     let j = depth as usize;
-    match tested {
-        Tested::Broke(_) => {
-            return given_up(sizes, choices, i, option, depth, placed);
-        }
-        Tested::Passed => {}
+    if tested.is_some() {
+        return given_up(sizes, choices, i, option, depth, placed);
     }
     if j + 1 == sizes.len() {
         return Way::Build;
@@ -245,46 +247,30 @@ fn given_up(sizes: &[u8], choices: &[u8], i: usize, option: u8, depth: u8, place
         ≡ given_up sizes.now choices.now i option depth (get_or placed.now depth 255)
         (kept_before depth placed.now) }
 {
-    let mut j = depth;
-    loop {
+    for j in (0..depth + 1).rev() {
         let at = j as usize;
-        match next_candidate(sizes, choices, i, option, at, placed[at]) {
-            Next::Candidate(next) => {
-                return Way::GoOn { depth: j, next };
-            }
-            Next::Nothing => {}
+        if let Some(next) = next_candidate(sizes, choices, i, option, at, placed[at]) {
+            return Way::GoOn { depth: j, next };
         }
-        if j == 0 {
-            return Way::Exhausted;
-        }
-        j -= 1;
     }
+    Way::Exhausted
 }
 
 // A pair ends, and the next starts in the same step; after the last the seat is ready.
-fn pair_ended(
-    sizes: &[u8],
-    choices: &[u8],
-    feature: u8,
-    option: u8,
-    left: bool,
-    alternative: bool,
-) -> After
+fn pair_ended(sizes: &[u8], choices: &[u8], feature: u8, option: u8, shown: Shown) -> After
     requires pair_within { (length sizes.now ≤ 16) × (feature < length sizes.now) × (option < 16) }
     requires sixteen_choices { (length choices.now ≡ 16) × (1 ≤ get_or sizes.now 0 0) }
     ensures { result ≡ record {
       state = after_pair sizes.now choices.now feature option;
       depth = 0;
-      left = left;
-      alternative = alternative;
+      shown = shown;
     } }
 {
     let state = after_pair(sizes, choices, feature, option);
     After {
         state,
         depth: 0,
-        left,
-        alternative,
+        shown,
     }
 }
 

@@ -6,7 +6,7 @@ use native.Mathlib.Omega.{arith}
 use borrow.Author.Rules.{rules}
 use lib.ListN.{length, length-set}
 use Rattle.builds.specs.Catalogue.{Catalogue, catalogue_of}
-use Rattle.placed.specs.declared.rules.Tested.{Tested}
+use Rattle.std.specs.Prelude.{Option}
 use Rattle.placed.specs.Tested.{rule_broken}
 use Rattle.search.specs.declared.Place.{Place}
 use Rattle.search.specs.Clinic.{Clinic, clinic_of, with_broken}
@@ -14,15 +14,31 @@ use Rattle.search.specs.Step.{search_at, test_at, broken_after, step_at}
 use Rattle.search.proofs.FitsInWords.{PlaceFits, fits_place, SeatFits, seat_fits_lem}
 use Rattle.search.proofs.KeptBefore.{kept_under}
 use Rattle.search.proofs.PlaceBounds.{feature_below_16, option_below_16, depth_below_16, place_at_work, nothing_from_depth, trial_bytes, tried_there, placed_so}
+use denote.Enum.Bare.{sameb}
+use Rattle.step.specs.contracts.written.Shown.{the_type}
+use Rattle.step.specs.declared.written.Shown.{Shown}
+use Rattle.step.specs.declared.written.Shown.TheVariants.{Nothing, Left, Alternative}
+use Rattle.step.specs.Inner.StepContracts.{shows_left, shows_alternative}
 use Rattle.step.proofs.written.step_at.Goals as goal
 
 -- the search goes on as `after_step` says, and then the rule that the test named is kept
-kept_so : (catalogue : Catalogue) (place : Place) (tested : Tested) (clinic after : Clinic) (broken : ℕ)
+kept_so : (catalogue : Catalogue) (place : Place) (tested : Option ℕ) (clinic after : Clinic) (broken : ℕ)
     → rule_broken tested ≡ test_at catalogue place clinic → after ≡ search_at catalogue place clinic
     → broken ≡ broken_after after.seat.state (rule_broken tested) clinic.seat.broken
     → with_broken broken after ≡ step_at catalogue place clinic
 unfolding step_at
 kept_so catalogue place tested clinic after broken named came kept = rw (kept, named, came) refl
+
+-- the code's comparisons are the two cases that set a bit
+left_shown : (shown : Shown) → sameb the_type shown Left ≡ shows_left shown
+left_shown Nothing = refl
+left_shown Left = refl
+left_shown Alternative = refl
+
+alternative_shown : (shown : Shown) → sameb the_type shown Alternative ≡ shows_alternative shown
+alternative_shown Nothing = refl
+alternative_shown Left = refl
+alternative_shown Alternative = refl
 
 pub bounds-placed-j : goal.bounds-placed-j
 bounds-placed-j c =
@@ -96,6 +112,8 @@ returns c =
     let trial_long : length c.args.seat.trial ≡ 16 = search rules in
     let nothing = nothing_from_depth (catalogue_of c.args.sizes.now c.args.rules.now) c.requires.needs.no_fault c.args.seat fits c.args.place c.requires.at_work trial_long in
     let under = kept_under c.args.seat.trial trial_long c.args.place.depth c.args.place.next (omega (arith, shallow)) nothing in
-    rw (c.masks_after.ensures, c.trial_after.ensures, c.masks_after-2.ensures)
+    let left = c.eq-left.ensures ∙ left_shown c.after_step-after.result.shown in
+    let alternative = c.eq-alternative.ensures ∙ alternative_shown c.after_step-after.result.shown in
+    rw (c.masks_after.ensures, c.trial_after.ensures, c.masks_after-2.ensures, left, alternative)
     (kept_so (catalogue_of c.args.sizes.now c.args.rules.now) c.args.place c.tested_at-tested.result (clinic_of c.args.seat c.args.share.now) _ _
     c.tested_at-tested.ensures (c.after_step-after.ensures.comes_to c.args.seat refl under) c.broken_after.ensures)

@@ -1,12 +1,13 @@
 -- What the test of the option came to decides, and each of the three ways on is one of the definition's: what is placed is
 -- the trial with the option in it, and what of it is kept before the depth is the trial. The bounds come from a catalogue
 -- without fault and a place that fits it.
-use Prim.Native.Nat.{◌<◌, ◌+◌}
+use Prim.Native.Nat.{ℕ, ◌<◌, ◌+◌}
 use mathlib.Core.Path.{◌≡◌, refl, sym, ap, ◌∙◌}
 use mathlib.Core.Bool.{true, false}
 use native.Mathlib.Omega.{arith}
 use borrow.Author.Tests.{eq-eqb, ne_eqb}
 use lib.ListN.{length, set}
+use Rattle.std.specs.Prelude.{Option, None, Some, is_some}
 use Rattle.builds.specs.Rule.{is_none, passes}
 use Rattle.builds.specs.Catalogue.{catalogue_of, rules_of}
 use Rattle.placed.specs.Tested.{rule_broken}
@@ -17,6 +18,15 @@ use Rattle.search.proofs.KeptBefore.{kept_whole, placed_again}
 use Rattle.search.proofs.PlaceBounds.{few_features, size_within, depth_below_16}
 use Rattle.step.proofs.written.try_next.Goals as goal
 
+-- the test failed where it named a rule
+broken_told : (tested : Option ℕ) → is_some tested ≡ true → is_none (rule_broken tested) ≡ false
+broken_told None e = sym e
+broken_told (Some rule) e = refl
+
+passed_told : (tested : Option ℕ) → is_some tested ≡ false → is_none (rule_broken tested) ≡ true
+passed_told None e = refl
+passed_told (Some rule) e = sym e
+
 pub given_up-requires : goal.given_up-requires
 given_up-requires c =
     let within : PlaceFits (catalogue_of c.args.sizes.now c.args.rules.now) c.args.place = place_fits_lem (catalogue_of c.args.sizes.now c.args.rules.now) c.args.place c.requires.within in
@@ -25,14 +35,14 @@ given_up-requires c =
       placed_at = c.requires.placed_so;
     }
 
-pub returns-in-Broke : goal.returns-in-Broke
+pub returns-then-is_some : goal.returns-then-is_some
 unfolding tried passes
-returns-in-Broke c =
+returns-then-is_some c =
     let within : PlaceFits (catalogue_of c.args.sizes.now c.args.rules.now) c.args.place = place_fits_lem (catalogue_of c.args.sizes.now c.args.rules.now) c.args.place c.requires.within in
     let shallow : c.args.place.depth < 16 = depth_below_16 (catalogue_of c.args.sizes.now c.args.rules.now) c.requires.no_fault within in
     let again : set (kept_before c.args.place.depth c.args.placed.now) c.args.place.depth c.args.place.next ≡ c.args.placed.now = placed_again c.requires.placed_so shallow c.args.place.next c.requires.tried in
     let test_is : is_none (rule_broken c.args.tested) ≡ (passes (rules_of (catalogue_of c.args.sizes.now c.args.rules.now)) c.args.place.depth c.args.placed.now) = ap is_none c.requires.is_tested in
-    let test_failed : (passes (rules_of (catalogue_of c.args.sizes.now c.args.rules.now)) c.args.place.depth c.args.placed.now) ≡ false = sym test_is ∙ rw c.in-Broke.is refl in
+    let test_failed : (passes (rules_of (catalogue_of c.args.sizes.now c.args.rules.now)) c.args.place.depth c.args.placed.now) ≡ false = sym test_is ∙ broken_told c.args.tested (sym c.is_some.ensures ∙ c.if-is_some.true) in
     record {
       depth_in_reach = omega (arith, c.given_up.ensures.depth_in_reach);
       tries = rw (again, test_failed, ← c.requires.tried) c.given_up.ensures.gives_up;
@@ -45,7 +55,7 @@ returns-then-j-sizes c =
     let shallow : c.args.place.depth < 16 = depth_below_16 (catalogue_of c.args.sizes.now c.args.rules.now) c.requires.no_fault within in
     let again : set (kept_before c.args.place.depth c.args.placed.now) c.args.place.depth c.args.place.next ≡ c.args.placed.now = placed_again c.requires.placed_so shallow c.args.place.next c.requires.tried in
     let test_is : is_none (rule_broken c.args.tested) ≡ (passes (rules_of (catalogue_of c.args.sizes.now c.args.rules.now)) c.args.place.depth c.args.placed.now) = ap is_none c.requires.is_tested in
-    let test_passed : (passes (rules_of (catalogue_of c.args.sizes.now c.args.rules.now)) c.args.place.depth c.args.placed.now) ≡ true = sym test_is ∙ rw c.in-Passed.is refl in
+    let test_passed : (passes (rules_of (catalogue_of c.args.sizes.now c.args.rules.now)) c.args.place.depth c.args.placed.now) ≡ true = sym test_is ∙ passed_told c.args.tested (sym c.is_some.ensures ∙ c.if-is_some.false) in
     record {
       depth_in_reach = omega arith;
       tries = rw (again, test_passed, eq-eqb (c.args.place.depth + 1) (length c.args.sizes.now) c.if-j-sizes.true) refl;
@@ -65,7 +75,7 @@ returns c =
     let shallow : c.args.place.depth < 16 = depth_below_16 (catalogue_of c.args.sizes.now c.args.rules.now) c.requires.no_fault within in
     let again : set (kept_before c.args.place.depth c.args.placed.now) c.args.place.depth c.args.place.next ≡ c.args.placed.now = placed_again c.requires.placed_so shallow c.args.place.next c.requires.tried in
     let test_is : is_none (rule_broken c.args.tested) ≡ (passes (rules_of (catalogue_of c.args.sizes.now c.args.rules.now)) c.args.place.depth c.args.placed.now) = ap is_none c.requires.is_tested in
-    let test_passed : (passes (rules_of (catalogue_of c.args.sizes.now c.args.rules.now)) c.args.place.depth c.args.placed.now) ≡ true = sym test_is ∙ rw c.in-Passed.is refl in
+    let test_passed : (passes (rules_of (catalogue_of c.args.sizes.now c.args.rules.now)) c.args.place.depth c.args.placed.now) ≡ true = sym test_is ∙ passed_told c.args.tested (sym c.is_some.ensures ∙ c.if-is_some.false) in
     record {
       depth_in_reach = omega arith;
       tries = rw (again, test_passed, ne_eqb (c.args.place.depth + 1) (length c.args.sizes.now) c.if-j-sizes.false, ← (kept_whole c.requires.placed_so shallow), c.first_candidate-first.ensures)
