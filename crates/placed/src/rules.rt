@@ -105,20 +105,16 @@ fn some_row(rows: &[u16], features: &[u16], placed: &[u8]) -> bool
     false
 }
 
-// Whether a row, or the front of one, matches what is placed at the features; compared from its last position back. It counts
-// the positions that are equal, for an index that falls compiles to a loop of more instructions.
+// Whether a row, or the front of one, matches what is placed at the features; compared from its last position back.
 fn row_matches(row: &[u16], features: &[u16], placed: &[u8]) -> bool
     requires as_long { length row.now ≡ length features.now }
     requires each_below { EachBelow (length placed.now) features.now }
     ensures { result ≡ matches row.now (map (option_at placed.now) features.now) }
 {
-    let mut equal = 0;
-    while 0 < features.len() - equal {
-        let i = features.len() - equal - 1;
+    for i in (0..features.len()).rev() {
         if row[i] != option_at(placed, usize::from(features[i])) {
             return false;
         }
-        equal += 1;
     }
     true
 }
