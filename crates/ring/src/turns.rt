@@ -3,7 +3,7 @@ ghost use Rattle.std.specs.Prelude.{◌≡◌, true, ◌<◌, length};
 ghost use Rattle.builds.specs.Catalogue.{catalogue_of};
 ghost use Rattle.builds.specs.Fault.{fault_of};
 ghost use Rattle.search.specs.Clinic.{clinic_of};
-ghost use Rattle.step.specs.Inner.StepContracts.{StepNeeds, Stepped};
+ghost use Rattle.step.specs.Inner.StepContracts.{catalogue_in, StepNeeds, Stepped};
 ghost use Rattle.ring.specs.Inner.Marks.{marks_of, true_from};
 ghost use Rattle.runs.specs.Call.{turns};
 ghost use Rattle.runs.specs.Answers.{TurnsTo};
@@ -16,6 +16,7 @@ use crate::marks::{first_at_work, seats_at_work, with_mark};
 use look::is_at_work;
 use runs::{Desk, Turned};
 use search::Seat;
+use step::Basis;
 
 // On a board and with a catalogue and a desk that passed the checks.
 pub fn make_turns(desk: Desk, board: &mut [u8], sizes: &[u8], rules: &[u16], w: u16) -> Turned
@@ -29,6 +30,13 @@ pub fn make_turns(desk: Desk, board: &mut [u8], sizes: &[u8], rules: &[u16], w: 
     let mut counts = [0u8; 1040];
     placed::starts_of(rules, &mut places, &mut counts);
     let edge = arrays::edge();
+    let basis = Basis {
+        sizes,
+        rules,
+        places: &places,
+        counts: &counts,
+        edge: &edge,
+    };
     let mut seats = desk.seats;
     let mut next = desk.next;
     let mut working = seats_at_work(seats);
@@ -38,7 +46,7 @@ pub fn make_turns(desk: Desk, board: &mut [u8], sizes: &[u8], rules: &[u16], w: 
         };
         let from = c * 4096;
         let share = &mut board[from..from + 4096];
-        let seat = stepped(seats[c], share, sizes, rules, &places, &counts, &edge);
+        let seat = stepped(seats[c], share, &basis);
         let after = (c + 1) % 8;
         seats[c] = seat;
         next = after as u8;
@@ -71,20 +79,11 @@ fn turned(made: u16, working: u8, desk: Desk) -> Turned
 }
 
 // One step for the seat that is served: its record is lent for the step, and handed back as the step left it.
-fn stepped(
-    mut seat: Seat,
-    share: &mut [u8],
-    sizes: &[u8],
-    rules: &[u16],
-    places: &[u16],
-    counts: &[u8],
-    edge: &[u8],
-) -> Seat
-    requires { StepNeeds (catalogue_of sizes.now rules.now) seat
-        share.old places.now counts.now edge.now }
-    ensures { Stepped (catalogue_of sizes.now rules.now)
+fn stepped(mut seat: Seat, share: &mut [u8], basis: &Basis) -> Seat
+    requires { StepNeeds basis.now seat share.old }
+    ensures { Stepped (catalogue_in basis.now)
         (clinic_of seat share.old) (clinic_of result share.new) }
 {
-    step::step_in(&mut seat, share, sizes, rules, places, counts, edge);
+    step::step_in(&mut seat, share, basis);
     seat
 }

@@ -1,6 +1,6 @@
 // One step of the written search.
 ghost use Rattle.std.specs.Prelude.{◌≡◌, ℕ, ◌+◌, ◌<◌, ◌≤◌, length, get_or, set};
-ghost use Rattle.builds.specs.Catalogue.{catalogue_of, rules_of};
+ghost use Rattle.builds.specs.Catalogue.{rules_of};
 ghost use Rattle.builds.specs.Rule.{first_broken};
 ghost use Rattle.builds.specs.Fault.{fault_of};
 ghost use Rattle.builds.specs.Inner.Starts.{AllStarts};
@@ -10,8 +10,9 @@ ghost use Rattle.search.specs.Candidates.{chosen_otherwise};
 ghost use Rattle.search.specs.Clinic.{clinic_of};
 ghost use Rattle.search.specs.Step.{given_up, tried, started, after_pair, broken_after, step_at};
 ghost use Rattle.search.specs.Inner.Placed.{kept_before, PlacedAt};
-ghost use Rattle.step.specs.Inner.StepContracts.{tried_of, depth_in, StepNeeds, Stepped, TryNeeds, ComesTo};
+ghost use Rattle.step.specs.Inner.StepContracts.{tried_of, depth_in, catalogue_in, StepNeeds, Stepped, TryNeeds, ComesTo};
 
+use crate::basis::Basis;
 use arrays::{masks_after, trial_after};
 use search::{Place, Seat, State};
 use seat::{first_candidate, next_candidate, started, write_example};
@@ -41,45 +42,26 @@ pub struct After {
 }
 
 // One step: record and share of the written search after it. A seat that is not at work makes none.
-pub fn step(
-    seat: Seat,
-    share: &mut [u8],
-    sizes: &[u8],
-    rules: &[u16],
-    places: &[u16],
-    counts: &[u8],
-    edge: &[u8],
-) -> Seat
-    requires { StepNeeds (catalogue_of sizes.now rules.now) seat
-        share.old places.now counts.now edge.now }
-    ensures { Stepped (catalogue_of sizes.now rules.now)
+pub fn step(seat: Seat, share: &mut [u8], basis: &Basis) -> Seat
+    requires { StepNeeds basis.now seat share.old }
+    ensures { Stepped (catalogue_in basis.now)
         (clinic_of seat share.old) (clinic_of result share.new) }
 {
     let state = seat.state;
     match state {
         State::Closed => seat,
         State::Ready => seat,
-        State::AtWork(place) => step_at(seat, place, share, sizes, rules, places, counts, edge),
+        State::AtWork(place) => step_at(seat, place, share, basis),
     }
 }
 
 // The record is only read, and each array of the new one is made whole: so both are held in registers. What is placed is
 // copied for who looks options up by feature: the test, the way back, and the example.
-fn step_at(
-    seat: Seat,
-    place: Place,
-    share: &mut [u8],
-    sizes: &[u8],
-    rules: &[u16],
-    places: &[u16],
-    counts: &[u8],
-    edge: &[u8],
-) -> Seat
-    requires needs { StepNeeds (catalogue_of sizes.now rules.now) seat
-        share.old places.now counts.now edge.now }
+fn step_at(seat: Seat, place: Place, share: &mut [u8], basis: &Basis) -> Seat
+    requires needs { StepNeeds basis.now seat share.old }
     requires at_work { seat.state ≡ AtWork place }
     ensures { clinic_of result share.new
-        ≡ step_at (catalogue_of sizes.now rules.now) place (clinic_of seat share.old) }
+        ≡ step_at (catalogue_in basis.now) place (clinic_of seat share.old) }
 {
     let choices = seat.choices;
     let masks = seat.masks;
@@ -89,8 +71,8 @@ fn step_at(
     let j = place.depth as usize;
     placed[j] = place.next;
     let build: &[u8] = &placed;
-    let tested = tested_at(j, build, sizes, rules, places, counts);
-    let after = after_step(place, tested, &choices, build, share, sizes, rules);
+    let tested = tested_at(j, build, basis);
+    let after = after_step(place, tested, &choices, build, share, basis);
     let state = after.state;
     let left = after.shown == Shown::Left;
     let alternative = after.shown == Shown::Alternative;
@@ -98,7 +80,7 @@ fn step_at(
         state,
         choices,
         masks: masks_after(masks, place.feature, place.option, left),
-        trial: trial_after(trial, edge, place.depth, place.next, after.depth),
+        trial: trial_after(trial, basis.edge, place.depth, place.next, after.depth),
         alternatives: masks_after(alternatives, place.feature, place.option, alternative),
         broken: broken_after(state, tested, seat.broken),
     }
@@ -106,28 +88,21 @@ fn step_at(
 
 // Rule 2: what is placed, the option to be tried at depth j with it, is tested against each rule whose highest-numbered
 // feature is j.
-fn tested_at(
-    j: usize,
-    placed: &[u8],
-    sizes: &[u8],
-    rules: &[u16],
-    places: &[u16],
-    counts: &[u8],
-) -> Option<u8>
-    requires starts_known { (fault_of (catalogue_of sizes.now rules.now) ≡ 0)
-        × AllStarts rules.now places.now counts.now }
+fn tested_at(j: usize, placed: &[u8], basis: &Basis) -> Option<u8>
+    requires starts_known { (fault_of (catalogue_in basis.now) ≡ 0)
+        × AllStarts basis.now.rules.now basis.now.places.now basis.now.counts.now }
     requires sixteen_placed { (j < 16) × (length placed.now ≡ 16) }
     ensures { rule_broken result
-        ≡ first_broken (rules_of (catalogue_of sizes.now rules.now)) j placed.now }
+        ≡ first_broken (rules_of (catalogue_in basis.now)) j placed.now }
 {
-    let count = usize::from(counts[j]);
+    let count = usize::from(basis.counts[j]);
     let starts = j * 64;
     let numbers = 16 + starts;
     placed::test(
-        rules,
+        basis.rules,
         j,
-        &places[starts..starts + count],
-        &counts[numbers..numbers + count],
+        &basis.places[starts..starts + count],
+        &basis.counts[numbers..numbers + count],
         placed,
     )
 }
@@ -154,18 +129,17 @@ fn after_step(
     choices: &[u8],
     placed: &[u8],
     share: &mut [u8],
-    sizes: &[u8],
-    rules: &[u16],
+    basis: &Basis,
 ) -> After
-    requires needs { TryNeeds (catalogue_of sizes.now rules.now) place tested choices.now placed.now }
+    requires needs { TryNeeds (catalogue_in basis.now) place tested choices.now placed.now }
     requires whole_share { length share.old ≡ 4096 }
     ensures depth_in_reach { result.depth ≤ place.depth + 1 }
-    ensures comes_to { ComesTo (catalogue_of sizes.now rules.now) place
+    ensures comes_to { ComesTo (catalogue_in basis.now) place
         choices.now placed.now share.old result share.new }
 {
     let feature = place.feature;
     let option = place.option;
-    let way = try_next(place, tested, choices, placed, sizes, rules);
+    let way = try_next(place, tested, choices, placed, basis);
     match way {
         Way::GoOn { depth, next } => {
             let state = State::AtWork(Place {
@@ -182,14 +156,14 @@ fn after_step(
         }
         Way::Build => {
             if chosen_otherwise(choices, feature, option) {
-                return pair_ended(sizes, choices, feature, option, Shown::Alternative);
+                return pair_ended(basis.sizes, choices, feature, option, Shown::Alternative);
             }
             let i = feature as usize;
             let a = option as usize;
             write_example(share, i * 256 + a * 16, placed);
-            pair_ended(sizes, choices, feature, option, Shown::Left)
+            pair_ended(basis.sizes, choices, feature, option, Shown::Left)
         }
-        Way::Exhausted => pair_ended(sizes, choices, feature, option, Shown::Nothing),
+        Way::Exhausted => pair_ended(basis.sizes, choices, feature, option, Shown::Nothing),
     }
 }
 
@@ -207,18 +181,11 @@ fn chosen_otherwise(choices: &[u8], feature: u8, option: u8) -> bool
 }
 
 // Rules 3 to 5, by what the test of the option came to.
-fn try_next(
-    place: Place,
-    tested: Option<u8>,
-    choices: &[u8],
-    placed: &[u8],
-    sizes: &[u8],
-    rules: &[u16],
-) -> Way
-    requires { TryNeeds (catalogue_of sizes.now rules.now) place tested choices.now placed.now }
+fn try_next(place: Place, tested: Option<u8>, choices: &[u8], placed: &[u8], basis: &Basis) -> Way
+    requires { TryNeeds (catalogue_in basis.now) place tested choices.now placed.now }
     ensures depth_in_reach { depth_in result ≤ place.depth + 1 }
     ensures tries { tried_of result placed.now
-        ≡ tried (catalogue_of sizes.now rules.now) choices.now place.feature
+        ≡ tried (catalogue_in basis.now) choices.now place.feature
         place.option place.depth place.next (kept_before place.depth placed.now) }
 {
     let depth = place.depth;
@@ -226,12 +193,12 @@ fn try_next(
     let i = place.feature as usize;
     let j = depth as usize;
     if tested.is_some() {
-        return given_up(sizes, choices, i, option, depth, placed);
+        return given_up(basis.sizes, choices, i, option, depth, placed);
     }
-    if j + 1 == sizes.len() {
+    if j + 1 == basis.sizes.len() {
         return Way::Build;
     }
-    let first = first_candidate(sizes, choices, i, option, j + 1);
+    let first = first_candidate(basis.sizes, choices, i, option, j + 1);
     Way::GoOn {
         depth: depth + 1,
         next: first,

@@ -2,14 +2,15 @@
 use Prim.Native.Nat.{◌+◌, ◌-◌, ◌*◌}
 use mathlib.Core.Path.{◌≡◌}
 use native.Mathlib.Omega.{arith}
-use Rattle.builds.specs.Catalogue.{catalogue_of, rules_of}
+use Rattle.builds.specs.Catalogue.{rules_of}
 use Rattle.builds.proofs.Faultless.{fault_whole}
 use Rattle.builds.proofs.Format.{fault_below}
+use Rattle.step.specs.Inner.StepContracts.{catalogue_in}
 use Rattle.step.proofs.written.tested_at.Goals as goal
 
 pub test-requires : goal.test-requires
 test-requires c =
-    let catalogue = catalogue_of c.args.sizes.now c.args.rules.now in
+    let catalogue = catalogue_in c.args.basis.now in
     let span : c.args.j * 64 + c.from-count.result - c.args.j * 64 ≡ c.from-count.result = omega arith in
     let span-2 : 16 + c.args.j * 64 + c.from-count.result - (16 + c.args.j * 64) ≡ c.from-count.result = omega arith in
     record {
