@@ -60,8 +60,8 @@ module _
     {catalogue : Catalogue}
     {place : Place}
     {tested : Option ℕ}
-    {choices placed : List ℕ}
-    (needs : TryNeeds catalogue place tested choices placed)
+    {placed : List ℕ}
+    (needs : TryNeeds catalogue place tested placed)
   where
     pub tried_fits : PlaceFits catalogue place
     tried_fits = place_fits_lem catalogue place needs.within
@@ -81,5 +81,5 @@ module _
     pub pair_within : (length catalogue.sizes ≤ 16) × (place.feature < length catalogue.sizes) × (place.option < 16)
     pair_within = (few_features, tried_fits.feature_below, option_below_16)
 
-    pub sixteen_choices : (length choices ≡ 16) × (1 ≤ get_or catalogue.sizes 0 0)
-    sixteen_choices = (needs.sixteen_choices, bounds.first_has_option catalogue needs.no_fault)
+    pub some_option : 1 ≤ get_or catalogue.sizes 0 0
+    some_option = bounds.first_has_option catalogue needs.no_fault

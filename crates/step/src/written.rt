@@ -126,12 +126,12 @@ fn broken_after(state: State, tested: Option<u8>, before: u8) -> u8
 fn after_step(
     place: Place,
     tested: Option<u8>,
-    choices: &[u8],
+    choices: &[u8; 16],
     placed: &[u8],
     share: &mut [u8],
     basis: &Basis,
 ) -> After
-    requires needs { TryNeeds (catalogue_in basis.now) place tested choices.now placed.now }
+    requires needs { TryNeeds (catalogue_in basis.now) place tested placed.now }
     requires whole_share { length share.old ≡ 4096 }
     ensures depth_in_reach { result.depth ≤ place.depth + 1 }
     ensures comes_to { ComesTo (catalogue_in basis.now) place
@@ -168,8 +168,8 @@ fn after_step(
 }
 
 // Whether a feature has a choice other than an option.
-fn chosen_otherwise(choices: &[u8], feature: u8, option: u8) -> bool
-    requires { feature < length choices.now }
+fn chosen_otherwise(choices: &[u8; 16], feature: u8, option: u8) -> bool
+    requires { feature < 16 }
     ensures { result ≡ chosen_otherwise choices.now feature option }
 {
     let i = feature as usize;
@@ -181,8 +181,14 @@ fn chosen_otherwise(choices: &[u8], feature: u8, option: u8) -> bool
 }
 
 // Rules 3 to 5, by what the test of the option came to.
-fn try_next(place: Place, tested: Option<u8>, choices: &[u8], placed: &[u8], basis: &Basis) -> Way
-    requires { TryNeeds (catalogue_in basis.now) place tested choices.now placed.now }
+fn try_next(
+    place: Place,
+    tested: Option<u8>,
+    choices: &[u8; 16],
+    placed: &[u8],
+    basis: &Basis,
+) -> Way
+    requires { TryNeeds (catalogue_in basis.now) place tested placed.now }
     ensures depth_in_reach { depth_in result ≤ place.depth + 1 }
     ensures tries { tried_of result placed.now
         ≡ tried (catalogue_in basis.now) choices.now place.feature
@@ -206,8 +212,8 @@ fn try_next(place: Place, tested: Option<u8>, choices: &[u8], placed: &[u8], bas
 }
 
 // Rule 5: the next greater candidate, at this depth or the nearest earlier one that has any.
-fn given_up(sizes: &[u8], choices: &[u8], i: usize, option: u8, depth: u8, placed: &[u8]) -> Way
-    requires within { (length choices.now ≡ 16) × (length sizes.now ≤ 16) × (depth < length sizes.now) }
+fn given_up(sizes: &[u8], choices: &[u8; 16], i: usize, option: u8, depth: u8, placed: &[u8]) -> Way
+    requires within { (length sizes.now ≤ 16) × (depth < length sizes.now) }
     requires placed_at { PlacedAt depth placed.now }
     ensures depth_in_reach { depth_in result ≤ depth }
     ensures gives_up { tried_of result placed.now
@@ -224,9 +230,9 @@ fn given_up(sizes: &[u8], choices: &[u8], i: usize, option: u8, depth: u8, place
 }
 
 // A pair ends, and the next starts in the same step; after the last the seat is ready.
-fn pair_ended(sizes: &[u8], choices: &[u8], feature: u8, option: u8, shown: Shown) -> After
+fn pair_ended(sizes: &[u8], choices: &[u8; 16], feature: u8, option: u8, shown: Shown) -> After
     requires pair_within { (length sizes.now ≤ 16) × (feature < length sizes.now) × (option < 16) }
-    requires sixteen_choices { (length choices.now ≡ 16) × (1 ≤ get_or sizes.now 0 0) }
+    requires some_option { 1 ≤ get_or sizes.now 0 0 }
     ensures { result ≡ record {
       state = after_pair sizes.now choices.now feature option;
       depth = 0;
@@ -241,9 +247,9 @@ fn pair_ended(sizes: &[u8], choices: &[u8], feature: u8, option: u8, shown: Show
     }
 }
 
-fn after_pair(sizes: &[u8], choices: &[u8], feature: u8, option: u8) -> State
+fn after_pair(sizes: &[u8], choices: &[u8; 16], feature: u8, option: u8) -> State
     requires pair_within { (length sizes.now ≤ 16) × (feature < length sizes.now) × (option < 16) }
-    requires sixteen_choices { (length choices.now ≡ 16) × (1 ≤ get_or sizes.now 0 0) }
+    requires some_option { 1 ≤ get_or sizes.now 0 0 }
     ensures { result ≡ after_pair sizes.now choices.now feature option }
 {
     let i = feature as usize;

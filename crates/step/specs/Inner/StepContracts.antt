@@ -47,10 +47,9 @@ abbrev pub Stepped : Catalogue → Clinic → Clinic → Type 0
 Stepped catalogue before after = after ≡ step catalogue before
 
 -- what trying an option needs, by what its test came to
-pub record TryNeeds (catalogue : Catalogue) (place : Place) (tested : Option ℕ) (choices placed : List ℕ) : Type 0 where
+pub record TryNeeds (catalogue : Catalogue) (place : Place) (tested : Option ℕ) (placed : List ℕ) : Type 0 where
   pub no_fault : fault_of catalogue ≡ 0
   pub within : place_fits catalogue place ≡ true
-  pub sixteen_choices : length choices ≡ 16
   pub placed_so : PlacedAt place.depth placed
   pub tried : get_or placed place.depth 255 ≡ place.next
   pub is_tested : rule_broken tested ≡ first_broken (rules_of catalogue) place.depth placed

@@ -53,12 +53,10 @@ tested_at-tested-requires c =
 pub after_step-after-requires : goal.after_step-after-requires
 after_step-after-requires c =
     let sixteen : length c.args.seat.trial ≡ 16 = search rules in
-    let choices_long : length c.args.seat.choices ≡ 16 = search rules in
     record {
       needs = record {
         no_fault = c.requires.needs.no_fault;
         within = fits_place (place_fits c.requires.needs c.requires.at_work);
-        sixteen_choices = choices_long;
         placed_so = placed_so c.requires.needs c.requires.at_work sixteen;
         tried = tried_there c.requires.needs c.requires.at_work sixteen;
         is_tested = c.tested_at-tested.ensures;

@@ -5,6 +5,7 @@ use Prim.Native.Nat.{ℕ, ◌<◌, ◌+◌}
 use mathlib.Core.Path.{◌≡◌, refl, sym, ap, ◌∙◌}
 use mathlib.Core.Bool.{true, false}
 use native.Mathlib.Omega.{arith}
+use borrow.Author.Rules.{rules}
 use borrow.Author.Tests.{eq-eqb, ne_eqb}
 use lib.ListN.{length, set}
 use Rattle.std.specs.Prelude.{Option, None, Some, is_some}
@@ -31,7 +32,7 @@ passed_told (Some rule) e = sym e
 pub given_up-requires : goal.given_up-requires
 given_up-requires c =
     record {
-      within = (c.requires.sixteen_choices, few_features c.requires, (tried_fits c.requires).depth_below);
+      within = (few_features c.requires, (tried_fits c.requires).depth_below);
       placed_at = c.requires.placed_so;
     }
 
@@ -61,7 +62,8 @@ pub first_candidate-first-requires : goal.first_candidate-first-requires
 first_candidate-first-requires c =
     let next_depth : c.args.place.depth + 1 < length c.args.basis.now.sizes.now = omega (arith, (tried_fits c.requires).depth_below, c.if-j-basis.false) in
     let size = size_within (catalogue_in c.args.basis.now) c.requires.no_fault (c.args.place.depth + 1) next_depth in
-    (c.requires.sixteen_choices, omega (arith, next_depth, few_features c.requires), size.0)
+    let choices_long : length c.args.choices.now ≡ 16 = search rules in
+    (choices_long, omega (arith, next_depth, few_features c.requires), size.0)
 
 pub returns : goal.returns
 unfolding tried passes
