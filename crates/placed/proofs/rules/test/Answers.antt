@@ -1,11 +1,10 @@
-use Prim.Native.Nat.{ℕ, ◌≤◌, ◌<◌, ◌+◌, min}
-use mathlib.Core.Path.{◌≡◌, sym, ap, ◌∙◌}
+use Prim.Native.Nat.{ℕ, ◌≤◌, ◌<◌, ◌+◌}
+use mathlib.Core.Path.{◌≡◌, refl, sym, ap, ◌∙◌}
 use mathlib.Core.Bool.{true, cond}
 use mathlib.Core.List.{List, map}
 use mathlib.Core.Option.{none, some}
 use native.Mathlib.Omega.{arith}
-use lib.ListN.{length, get_or, drop, length-append, length-drop, length-map, get_or-map}
-use Rattle.std.proofs.lemmas.Slice.Zip.{zip_turn, zip_end}
+use lib.ListN.{length, get_or, drop, length-drop, length-map, get_or-map}
 use Rattle.builds.specs.Rule.{satisfies}
 use Rattle.builds.specs.Catalogue.{features_read, rule_read, rules_read}
 use Rattle.builds.specs.Inner.Starts.{whole_rule, whole_rules, EachBelow, FeaturesBelow, tested_at, starts_at, numbers_at, first_of}
@@ -60,47 +59,48 @@ module _
           first_from_here = rw (begins_here, number_here) (first_step rules tested placed i here);
         }
 
-    -- after as many turns as both lists are long, none is left
-    none_left : (i : ℕ) → i ≡ min (length starts) (length numbers) → first_of rules (drop i (tested_at rules j)) placed ≡ none
+    -- each list has one for each rule
+    as_many : length numbers ≡ length starts
+    as_many = noted_many numbered (tested_at rules j) numbers_are ∙ sym (noted_many begins (tested_at rules j) starts_are)
+
+    none_left : (i : ℕ) → length starts ≤ i → first_of rules (drop i (tested_at rules j)) placed ≡ none
     none_left i e =
         let tested = tested_at rules j in
-        first_end rules tested placed i (omega (arith, noted_many begins tested starts_are, noted_many numbered tested numbers_are))
+        first_end rules tested placed i (omega (arith, noted_many begins tested starts_are))
 
 pub slice_bounds-satisfied-count : goal.slice_bounds-satisfied-count
 slice_bounds-satisfied-count c =
-    let t = zip_turn c.args.starts.now c.args.numbers.now c.loop-start.yielded c.into_iter-start-iterator.result c.loop-start.start-iterator c.next.new.self _ (cc) (cc) c.loop-start.yielded_by _ c.in-Some.is c.next.ensures.steps in
-    let h = come c.args.rules.now c.args.placed.now c.args.j _ _ c.requires.starts_known.0 c.requires.starts_known.1 c.requires.rules_whole c.requires.features_below _ _ _ t.0 (c.from-place.ensures ∙ t.2 0) (t.3 0) in
+    let h = come c.args.rules.now c.args.placed.now c.args.j _ _ c.requires.starts_known.0 c.requires.starts_known.1 c.requires.rules_whole c.requires.features_below c.loop-i.i _ (get_or c.args.numbers.now c.loop-i.i 0) (omega arith) c.from-place.ensures refl in
     h.within
 
 pub slice_bounds-satisfied-start : goal.slice_bounds-satisfied-start
 slice_bounds-satisfied-start c =
-    let t = zip_turn c.args.starts.now c.args.numbers.now c.loop-start.yielded c.into_iter-start-iterator.result c.loop-start.start-iterator c.next.new.self _ (cc) (cc) c.loop-start.yielded_by _ c.in-Some.is c.next.ensures.steps in
-    let h = come c.args.rules.now c.args.placed.now c.args.j _ _ c.requires.starts_known.0 c.requires.starts_known.1 c.requires.rules_whole c.requires.features_below _ _ _ t.0 (c.from-place.ensures ∙ t.2 0) (t.3 0) in
+    let h = come c.args.rules.now c.args.placed.now c.args.j _ _ c.requires.starts_known.0 c.requires.starts_known.1 c.requires.rules_whole c.requires.features_below c.loop-i.i _ (get_or c.args.numbers.now c.loop-i.i 0) (omega arith) c.from-place.ensures refl in
     omega (arith, h.within)
 
 pub satisfied-requires : goal.satisfied-requires
 satisfied-requires c =
-    let t = zip_turn c.args.starts.now c.args.numbers.now c.loop-start.yielded c.into_iter-start-iterator.result c.loop-start.start-iterator c.next.new.self _ (cc) (cc) c.loop-start.yielded_by _ c.in-Some.is c.next.ensures.steps in
-    let h = come c.args.rules.now c.args.placed.now c.args.j _ _ c.requires.starts_known.0 c.requires.starts_known.1 c.requires.rules_whole c.requires.features_below _ _ _ t.0 (c.from-place.ensures ∙ t.2 0) (t.3 0) in
+    let h = come c.args.rules.now c.args.placed.now c.args.j _ _ c.requires.starts_known.0 c.requires.starts_known.1 c.requires.rules_whole c.requires.features_below c.loop-i.i _ (get_or c.args.numbers.now c.loop-i.i 0) (omega arith) c.from-place.ensures refl in
     rw left_lent (h.whole_there, h.below)
 
 pub returns-then-not-satisfied : goal.returns-then-not-satisfied
 returns-then-not-satisfied c =
-    let t = zip_turn c.args.starts.now c.args.numbers.now c.loop-start.yielded c.into_iter-start-iterator.result c.loop-start.start-iterator c.next.new.self _ (cc) (cc) c.loop-start.yielded_by _ c.in-Some.is c.next.ensures.steps in
-    let h = come c.args.rules.now c.args.placed.now c.args.j _ _ c.requires.starts_known.0 c.requires.starts_known.1 c.requires.rules_whole c.requires.features_below _ _ _ t.0 (c.from-place.ensures ∙ t.2 0) (t.3 0) in
+    let h = come c.args.rules.now c.args.placed.now c.args.j _ _ c.requires.starts_known.0 c.requires.starts_known.1 c.requires.rules_whole c.requires.features_below c.loop-i.i _ (get_or c.args.numbers.now c.loop-i.i 0) (omega arith) c.from-place.ensures refl in
     let answer = rw left_lent at c.satisfied.ensures in
-    sym (rw (← answer, c.if-not-satisfied.true) at h.first_from_here) ∙ c.loop-start.invariant
+    sym (rw (← answer, c.if-not-satisfied.true) at h.first_from_here) ∙ c.loop-i.invariant
     ∙ first_tested c.args.rules.now c.args.placed.now c.args.j
 
-pub loop-start-preserved : goal.loop-start-preserved
-loop-start-preserved c =
-    let t = zip_turn c.args.starts.now c.args.numbers.now c.loop-start.yielded c.into_iter-start-iterator.result c.loop-start.start-iterator c.next.new.self _ (cc) (cc) c.loop-start.yielded_by _ c.in-Some.is c.next.ensures.steps in
-    let h = come c.args.rules.now c.args.placed.now c.args.j _ _ c.requires.starts_known.0 c.requires.starts_known.1 c.requires.rules_whole c.requires.features_below _ _ _ t.0 (c.from-place.ensures ∙ t.2 0) (t.3 0) in
+pub loop-i-preserved : goal.loop-i-preserved
+loop-i-preserved c =
+    let h = come c.args.rules.now c.args.placed.now c.args.j _ _ c.requires.starts_known.0 c.requires.starts_known.1 c.requires.rules_whole c.requires.features_below c.loop-i.i _ (get_or c.args.numbers.now c.loop-i.i 0) (omega arith) c.from-place.ensures refl in
     let answer = rw left_lent at c.satisfied.ensures in
-    rw length-append (sym (rw (← answer, c.if-not-satisfied.false) at h.first_from_here) ∙ c.loop-start.invariant)
+    (sym (rw (← answer, c.if-not-satisfied.false) at h.first_from_here) ∙ c.loop-i.invariant)
+
+pub bounds-numbers-i : goal.bounds-numbers-i
+bounds-numbers-i c =
+    omega (arith, as_many c.args.rules.now c.args.placed.now c.args.j c.args.starts.now c.args.numbers.now c.requires.starts_known.0 c.requires.starts_known.1)
 
 pub returns : goal.returns
 returns c =
-    let t = zip_end c.args.starts.now c.args.numbers.now c.loop-start.yielded c.into_iter-start-iterator.result c.loop-start.start-iterator c.next.new.self _ (cc) (cc) c.loop-start.yielded_by c.in-None.is c.next.ensures.steps in
-    sym (none_left c.args.rules.now c.args.placed.now c.args.j _ _ c.requires.starts_known.0 c.requires.starts_known.1 _ t)
-    ∙ c.loop-start.invariant ∙ first_tested c.args.rules.now c.args.placed.now c.args.j
+    sym (none_left c.args.rules.now c.args.placed.now c.args.j _ _ c.requires.starts_known.0 c.requires.starts_known.1 c.loop-i.i (omega arith))
+    ∙ c.loop-i.invariant ∙ first_tested c.args.rules.now c.args.placed.now c.args.j
