@@ -28,6 +28,7 @@ pub fn test(rules: &[u16], j: usize, starts: &[u16], numbers: &[u8], placed: &[u
 // Notes which rules are tested at each feature, in one walk over the list: where they begin, 64 places a feature; how many
 // they are, sixteen counts; and after these their numbers, 64 a feature again. Both are lent, so that they are written where
 // they are read.
+// Stays: no plainer by `for`, since each rule's own head says where the next begins.
 pub fn starts_of(rules: &[u16], places: &mut [u16; 1024], counts: &mut [u8; 1040])
     requires rules_whole { (whole_rules 64 rules.now ≡ true) × (length rules.now ≤ 8192) }
     requires room_for_starts { (length places.old ≡ 1024) × (counts.old ≡ replicate 1040 0) }
@@ -85,6 +86,8 @@ fn option_at(placed: &[u8], feature: usize) -> u16
 // The row test: whether one of the rows, which stand one after another, matches what is placed at the features. Each row is
 // compared from its last position back, for most rows differ there. What is placed at the last feature is looked up once for
 // all rows; the place is that of a row's last option.
+// Stays: no plainer by `rows.chunks_exact(features.len())`, which divides the rows' length at each test; each row would still be
+// cut into its last option and its front.
 fn some_row(rows: &[u16], features: &[u16], placed: &[u8]) -> bool
     requires rows_whole { (1 ≤ length features.now) × WholeRows (length features.now) rows.now }
     requires each_below { EachBelow (length placed.now) features.now }
