@@ -1,9 +1,7 @@
 -- What the test of an option that was placed answers, as the definitions have it: no rule, or the number of the rule broken.
-use Rattle.std.specs.Prelude.{ℕ}
-use Rattle.std.proofs.Math.Option.{Option, none, some}
-use Rattle.placed.specs.declared.rules.Tested.{Tested}
-use Rattle.placed.specs.declared.rules.Tested.TheVariants.{Passed, Broke}
+use Rattle.std.specs.Prelude.{ℕ, Option, None, Some}
+use Rattle.std.proofs.Math.Option as defined
 
-abbrev pub rule_broken : Tested → Option ℕ
-rule_broken Passed = none
-rule_broken (Broke number) = some number
+abbrev pub rule_broken : Option ℕ → defined.Option ℕ
+rule_broken None = defined.none
+rule_broken (Some number) = defined.some number

@@ -4,4 +4,4 @@
 
 mod rules;
 
-pub use rules::{Tested, starts_of, test};
+pub use rules::{starts_of, test};

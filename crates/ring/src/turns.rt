@@ -3,7 +3,7 @@ ghost use Rattle.std.specs.Prelude.{◌≡◌, true, ◌<◌, length};
 ghost use Rattle.builds.specs.Catalogue.{catalogue_of};
 ghost use Rattle.builds.specs.Fault.{fault_of};
 ghost use Rattle.search.specs.Clinic.{clinic_of};
-ghost use Rattle.step.specs.Inner.StepContracts.{StepNeeds, Stepped};
+ghost use Rattle.step.specs.Inner.StepContracts.{catalogue_in, StepNeeds, Stepped};
 ghost use Rattle.ring.specs.Inner.Marks.{marks_of, true_from};
 ghost use Rattle.runs.specs.Call.{turns};
 ghost use Rattle.runs.specs.Answers.{TurnsTo};
@@ -12,10 +12,11 @@ ghost use Rattle.runs.specs.Perform.{done};
 ghost use Rattle.runs.specs.Room.{room_of};
 ghost use Rattle.runs.specs.Turn.{is_some};
 
-use crate::marks::{Found, first_at_work, is_someone, seats_at_work, with_mark};
+use crate::marks::{first_at_work, seats_at_work, with_mark};
 use look::is_at_work;
 use runs::{Desk, Turned};
 use search::Seat;
+use step::Basis;
 
 // On a board and with a catalogue and a desk that passed the checks.
 pub fn make_turns(desk: Desk, board: &mut [u8], sizes: &[u8], rules: &[u16], w: u16) -> Turned
@@ -29,28 +30,33 @@ pub fn make_turns(desk: Desk, board: &mut [u8], sizes: &[u8], rules: &[u16], w: 
     let mut counts = [0u8; 1040];
     placed::starts_of(rules, &mut places, &mut counts);
     let edge = arrays::edge();
+    let basis = Basis {
+        sizes,
+        rules,
+        places: &places,
+        counts: &counts,
+        edge: &edge,
+    };
     let mut seats = desk.seats;
     let mut next = desk.next;
     let mut working = seats_at_work(seats);
-    let mut made = 0u16;
-    while made < w {
-        let Found::At(c) = first_at_work(working, next as usize) else {
-            break;
+    for made in 0..w {
+        let Some(c) = first_at_work(working, next as usize) else {
+            return turned(made, working, Desk { seats, next });
         };
         let from = c * 4096;
         let share = &mut board[from..from + 4096];
-        let seat = stepped(seats[c], share, sizes, rules, &places, &counts, &edge);
+        let seat = stepped(seats[c], share, &basis);
         let after = (c + 1) % 8;
         seats[c] = seat;
         next = after as u8;
-        made += 1;
         // A mark is touched only where a job has ended: made anew at every step, it would keep the next turn waiting.
         if is_at_work(seat) {
             continue;
         }
         working = with_mark(working, c, false);
     }
-    turned(made, working, Desk { seats, next })
+    turned(w, working, Desk { seats, next })
 }
 
 // The answer of an accepted call.
@@ -67,26 +73,17 @@ fn turned(made: u16, working: u8, desk: Desk) -> Turned
     Turned {
         number: 0,
         made,
-        working: is_someone(found),
+        working: found.is_some(),
         desk,
     }
 }
 
 // One step for the seat that is served: its record is lent for the step, and handed back as the step left it.
-fn stepped(
-    mut seat: Seat,
-    share: &mut [u8],
-    sizes: &[u8],
-    rules: &[u16],
-    places: &[u16],
-    counts: &[u8],
-    edge: &[u8],
-) -> Seat
-    requires { StepNeeds (catalogue_of sizes.now rules.now) seat
-        share.old places.now counts.now edge.now }
-    ensures { Stepped (catalogue_of sizes.now rules.now)
+fn stepped(mut seat: Seat, share: &mut [u8], basis: &Basis) -> Seat
+    requires { StepNeeds basis.now seat share.old }
+    ensures { Stepped (catalogue_in basis.now)
         (clinic_of seat share.old) (clinic_of result share.new) }
 {
-    step::step_in(&mut seat, share, sizes, rules, places, counts, edge);
+    step::step_in(&mut seat, share, basis);
     seat
 }

@@ -5,7 +5,7 @@ mod candidates;
 mod job;
 mod share;
 
-pub use candidates::{Next, first_candidate, next_candidate, started};
+pub use candidates::{first_candidate, next_candidate, started};
 pub use job::{clinic_after, closed};
 pub use search::{Place, Seat, State};
 pub use share::{empty, write_example};

@@ -1,6 +1,6 @@
 // One step of the written search.
 ghost use Rattle.std.specs.Prelude.{◌≡◌, ℕ, ◌+◌, ◌<◌, ◌≤◌, length, get_or, set};
-ghost use Rattle.builds.specs.Catalogue.{catalogue_of, rules_of};
+ghost use Rattle.builds.specs.Catalogue.{rules_of};
 ghost use Rattle.builds.specs.Rule.{first_broken};
 ghost use Rattle.builds.specs.Fault.{fault_of};
 ghost use Rattle.builds.specs.Inner.Starts.{AllStarts};
@@ -10,13 +10,12 @@ ghost use Rattle.search.specs.Candidates.{chosen_otherwise};
 ghost use Rattle.search.specs.Clinic.{clinic_of};
 ghost use Rattle.search.specs.Step.{given_up, tried, started, after_pair, broken_after, step_at};
 ghost use Rattle.search.specs.Inner.Placed.{kept_before, PlacedAt};
-ghost use Rattle.step.specs.Inner.StepContracts.{tried_of, depth_in, StepNeeds, Stepped, TryNeeds, ComesTo};
+ghost use Rattle.step.specs.Inner.StepContracts.{tried_of, depth_in, catalogue_in, StepNeeds, Stepped, TryNeeds, ComesTo};
 
+use crate::basis::Basis;
 use arrays::{masks_after, trial_after};
-use numbers::byte;
-use placed::Tested;
 use search::{Place, Seat, State};
-use seat::{Next, first_candidate, next_candidate, started, write_example};
+use seat::{first_candidate, next_candidate, started, write_example};
 
 // What comes of trying an option.
 #[derive(Drop)]
@@ -26,56 +25,43 @@ pub enum Way {
     Exhausted,
 }
 
-// What a step comes to: the state after it, the depth before which options stay placed, and what a build that was found
-// shows of the pair's option.
+// What a step shows of the pair's option.
+#[derive(Clone, Copy, PartialEq, Eq)]
+pub enum Shown {
+    Nothing, // no build was found
+    Left, // it is left, and the build that was found was written as its example
+    Alternative, // it could replace the choice of its feature, and no example was written
+}
+
+// What a step comes to: the state after it, the depth before which options stay placed, and what it shows.
 #[derive(Drop)]
 pub struct After {
     pub state: State,
     pub depth: u8,
-    pub left: bool, // it is left, and the build was written as its example
-    pub alternative: bool, // it could replace the choice of its feature, and no example was written
+    pub shown: Shown,
 }
 
 // One step: record and share of the written search after it. A seat that is not at work makes none.
-pub fn step(
-    seat: Seat,
-    share: &mut [u8],
-    sizes: &[u8],
-    rules: &[u16],
-    places: &[u16],
-    counts: &[u8],
-    edge: &[u8],
-) -> Seat
-    requires { StepNeeds (catalogue_of sizes.now rules.now) seat
-        share.old places.now counts.now edge.now }
-    ensures { Stepped (catalogue_of sizes.now rules.now)
+pub fn step(seat: Seat, share: &mut [u8], basis: &Basis) -> Seat
+    requires { StepNeeds basis.now seat share.old }
+    ensures { Stepped (catalogue_in basis.now)
         (clinic_of seat share.old) (clinic_of result share.new) }
 {
     let state = seat.state;
     match state {
         State::Closed => seat,
         State::Ready => seat,
-        State::AtWork(place) => step_at(seat, place, share, sizes, rules, places, counts, edge),
+        State::AtWork(place) => step_at(seat, place, share, basis),
     }
 }
 
 // The record is only read, and each array of the new one is made whole: so both are held in registers. What is placed is
 // copied for who looks options up by feature: the test, the way back, and the example.
-fn step_at(
-    seat: Seat,
-    place: Place,
-    share: &mut [u8],
-    sizes: &[u8],
-    rules: &[u16],
-    places: &[u16],
-    counts: &[u8],
-    edge: &[u8],
-) -> Seat
-    requires needs { StepNeeds (catalogue_of sizes.now rules.now) seat
-        share.old places.now counts.now edge.now }
+fn step_at(seat: Seat, place: Place, share: &mut [u8], basis: &Basis) -> Seat
+    requires needs { StepNeeds basis.now seat share.old }
     requires at_work { seat.state ≡ AtWork place }
     ensures { clinic_of result share.new
-        ≡ step_at (catalogue_of sizes.now rules.now) place (clinic_of seat share.old) }
+        ≡ step_at (catalogue_in basis.now) place (clinic_of seat share.old) }
 {
     let choices = seat.choices;
     let masks = seat.masks;
@@ -85,57 +71,52 @@ fn step_at(
     let j = place.depth as usize;
     placed[j] = place.next;
     let build: &[u8] = &placed;
-    let tested = tested_at(j, build, sizes, rules, places, counts);
-    let after = after_step(place, tested, &choices, build, share, sizes, rules);
+    let tested = tested_at(j, build, basis);
+    let after = after_step(place, tested, &choices, build, share, basis);
     let state = after.state;
+    let left = after.shown == Shown::Left;
+    let alternative = after.shown == Shown::Alternative;
     Seat {
         state,
         choices,
-        masks: masks_after(masks, place.feature, place.option, after.left),
-        trial: trial_after(trial, edge, place.depth, place.next, after.depth),
-        alternatives: masks_after(alternatives, place.feature, place.option, after.alternative),
+        masks: masks_after(masks, place.feature, place.option, left),
+        trial: trial_after(trial, basis.edge, place.depth, place.next, after.depth),
+        alternatives: masks_after(alternatives, place.feature, place.option, alternative),
         broken: broken_after(state, tested, seat.broken),
     }
 }
 
 // Rule 2: what is placed, the option to be tried at depth j with it, is tested against each rule whose highest-numbered
 // feature is j.
-fn tested_at(
-    j: usize,
-    placed: &[u8],
-    sizes: &[u8],
-    rules: &[u16],
-    places: &[u16],
-    counts: &[u8],
-) -> Tested
-    requires starts_known { (fault_of (catalogue_of sizes.now rules.now) ≡ 0)
-        × AllStarts rules.now places.now counts.now }
+fn tested_at(j: usize, placed: &[u8], basis: &Basis) -> Option<u8>
+    requires starts_known { (fault_of (catalogue_in basis.now) ≡ 0)
+        × AllStarts basis.now.rules.now basis.now.places.now basis.now.counts.now }
     requires sixteen_placed { (j < 16) × (length placed.now ≡ 16) }
     ensures { rule_broken result
-        ≡ first_broken (rules_of (catalogue_of sizes.now rules.now)) j placed.now }
+        ≡ first_broken (rules_of (catalogue_in basis.now)) j placed.now }
 {
-    let count = byte(counts[j]);
+    let count = usize::from(basis.counts[j]);
     let starts = j * 64;
     let numbers = 16 + starts;
     placed::test(
-        rules,
+        basis.rules,
         j,
-        &places[starts..starts + count],
-        &counts[numbers..numbers + count],
+        &basis.places[starts..starts + count],
+        &basis.counts[numbers..numbers + count],
         placed,
     )
 }
 
 // The last rule broken in this job, after a step to a state: a test that failed names it, and a seat that is ready has none.
-fn broken_after(state: State, tested: Tested, before: u8) -> u8
+fn broken_after(state: State, tested: Option<u8>, before: u8) -> u8
     ensures { result ≡ broken_after state (rule_broken tested) before }
 {
     match state {
         State::Closed => 255,
         State::Ready => 255,
         State::AtWork(_) => match tested {
-            Tested::Passed => before,
-            Tested::Broke(rule) => rule,
+            None => before,
+            Some(rule) => rule,
         },
     }
 }
@@ -144,22 +125,21 @@ fn broken_after(state: State, tested: Tested, before: u8) -> u8
 // the example, but for one at a feature chosen otherwise: its option is no more than an alternative.
 fn after_step(
     place: Place,
-    tested: Tested,
-    choices: &[u8],
+    tested: Option<u8>,
+    choices: &[u8; 16],
     placed: &[u8],
     share: &mut [u8],
-    sizes: &[u8],
-    rules: &[u16],
+    basis: &Basis,
 ) -> After
-    requires needs { TryNeeds (catalogue_of sizes.now rules.now) place tested choices.now placed.now }
+    requires needs { TryNeeds (catalogue_in basis.now) place tested placed.now }
     requires whole_share { length share.old ≡ 4096 }
     ensures depth_in_reach { result.depth ≤ place.depth + 1 }
-    ensures comes_to { ComesTo (catalogue_of sizes.now rules.now) place
+    ensures comes_to { ComesTo (catalogue_in basis.now) place
         choices.now placed.now share.old result share.new }
 {
     let feature = place.feature;
     let option = place.option;
-    let way = try_next(place, tested, choices, placed, sizes, rules);
+    let way = try_next(place, tested, choices, placed, basis);
     match way {
         Way::GoOn { depth, next } => {
             let state = State::AtWork(Place {
@@ -171,26 +151,25 @@ fn after_step(
             After {
                 state,
                 depth,
-                left: false,
-                alternative: false,
+                shown: Shown::Nothing,
             }
         }
         Way::Build => {
             if chosen_otherwise(choices, feature, option) {
-                return pair_ended(sizes, choices, feature, option, false, true);
+                return pair_ended(basis.sizes, choices, feature, option, Shown::Alternative);
             }
             let i = feature as usize;
             let a = option as usize;
             write_example(share, i * 256 + a * 16, placed);
-            pair_ended(sizes, choices, feature, option, true, false)
+            pair_ended(basis.sizes, choices, feature, option, Shown::Left)
         }
-        Way::Exhausted => pair_ended(sizes, choices, feature, option, false, false),
+        Way::Exhausted => pair_ended(basis.sizes, choices, feature, option, Shown::Nothing),
     }
 }
 
 // Whether a feature has a choice other than an option.
-fn chosen_otherwise(choices: &[u8], feature: u8, option: u8) -> bool
-    requires { feature < length choices.now }
+fn chosen_otherwise(choices: &[u8; 16], feature: u8, option: u8) -> bool
+    requires { feature < 16 }
     ensures { result ≡ chosen_otherwise choices.now feature option }
 {
     let i = feature as usize;
@@ -204,32 +183,28 @@ fn chosen_otherwise(choices: &[u8], feature: u8, option: u8) -> bool
 // Rules 3 to 5, by what the test of the option came to.
 fn try_next(
     place: Place,
-    tested: Tested,
-    choices: &[u8],
+    tested: Option<u8>,
+    choices: &[u8; 16],
     placed: &[u8],
-    sizes: &[u8],
-    rules: &[u16],
+    basis: &Basis,
 ) -> Way
-    requires { TryNeeds (catalogue_of sizes.now rules.now) place tested choices.now placed.now }
+    requires { TryNeeds (catalogue_in basis.now) place tested placed.now }
     ensures depth_in_reach { depth_in result ≤ place.depth + 1 }
     ensures tries { tried_of result placed.now
-        ≡ tried (catalogue_of sizes.now rules.now) choices.now place.feature
+        ≡ tried (catalogue_in basis.now) choices.now place.feature
         place.option place.depth place.next (kept_before place.depth placed.now) }
 {
     let depth = place.depth;
     let option = place.option;
     let i = place.feature as usize;
     let j = depth as usize;
-    match tested {
-        Tested::Broke(_) => {
-            return given_up(sizes, choices, i, option, depth, placed);
-        }
-        Tested::Passed => {}
+    if tested.is_some() {
+        return given_up(basis.sizes, choices, i, option, depth, placed);
     }
-    if j + 1 == sizes.len() {
+    if j + 1 == basis.sizes.len() {
         return Way::Build;
     }
-    let first = first_candidate(sizes, choices, i, option, j + 1);
+    let first = first_candidate(basis.sizes, choices, i, option, j + 1);
     Way::GoOn {
         depth: depth + 1,
         next: first,
@@ -237,60 +212,44 @@ fn try_next(
 }
 
 // Rule 5: the next greater candidate, at this depth or the nearest earlier one that has any.
-fn given_up(sizes: &[u8], choices: &[u8], i: usize, option: u8, depth: u8, placed: &[u8]) -> Way
-    requires within { (length choices.now ≡ 16) × (length sizes.now ≤ 16) × (depth < length sizes.now) }
+fn given_up(sizes: &[u8], choices: &[u8; 16], i: usize, option: u8, depth: u8, placed: &[u8]) -> Way
+    requires within { (length sizes.now ≤ 16) × (depth < length sizes.now) }
     requires placed_at { PlacedAt depth placed.now }
     ensures depth_in_reach { depth_in result ≤ depth }
     ensures gives_up { tried_of result placed.now
         ≡ given_up sizes.now choices.now i option depth (get_or placed.now depth 255)
         (kept_before depth placed.now) }
 {
-    let mut j = depth;
-    loop {
+    for j in (0..depth + 1).rev() {
         let at = j as usize;
-        match next_candidate(sizes, choices, i, option, at, placed[at]) {
-            Next::Candidate(next) => {
-                return Way::GoOn { depth: j, next };
-            }
-            Next::Nothing => {}
+        if let Some(next) = next_candidate(sizes, choices, i, option, at, placed[at]) {
+            return Way::GoOn { depth: j, next };
         }
-        if j == 0 {
-            return Way::Exhausted;
-        }
-        j -= 1;
     }
+    Way::Exhausted
 }
 
 // A pair ends, and the next starts in the same step; after the last the seat is ready.
-fn pair_ended(
-    sizes: &[u8],
-    choices: &[u8],
-    feature: u8,
-    option: u8,
-    left: bool,
-    alternative: bool,
-) -> After
+fn pair_ended(sizes: &[u8], choices: &[u8; 16], feature: u8, option: u8, shown: Shown) -> After
     requires pair_within { (length sizes.now ≤ 16) × (feature < length sizes.now) × (option < 16) }
-    requires sixteen_choices { (length choices.now ≡ 16) × (1 ≤ get_or sizes.now 0 0) }
+    requires some_option { 1 ≤ get_or sizes.now 0 0 }
     ensures { result ≡ record {
       state = after_pair sizes.now choices.now feature option;
       depth = 0;
-      left = left;
-      alternative = alternative;
+      shown = shown;
     } }
 {
     let state = after_pair(sizes, choices, feature, option);
     After {
         state,
         depth: 0,
-        left,
-        alternative,
+        shown,
     }
 }
 
-fn after_pair(sizes: &[u8], choices: &[u8], feature: u8, option: u8) -> State
+fn after_pair(sizes: &[u8], choices: &[u8; 16], feature: u8, option: u8) -> State
     requires pair_within { (length sizes.now ≤ 16) × (feature < length sizes.now) × (option < 16) }
-    requires sixteen_choices { (length choices.now ≡ 16) × (1 ≤ get_or sizes.now 0 0) }
+    requires some_option { 1 ≤ get_or sizes.now 0 0 }
     ensures { result ≡ after_pair sizes.now choices.now feature option }
 {
     let i = feature as usize;

@@ -4,17 +4,10 @@ use Rattle.std.specs.Prelude.{ℕ, zero, suc, Bool, false, cond, List, [], ◌�
 use Rattle.std.proofs.Math.Option.{Option, none, some}
 use Rattle.search.specs.Bits.{has_bit}
 use Rattle.runs.specs.Turn.{seat_after}
-use Rattle.ring.specs.declared.marks.Found.{Found}
-use Rattle.ring.specs.declared.marks.Found.TheVariants.{At, Nobody}
 
 unfoldable pub marks_of : ℕ → List Bool
 marks_of byte =
     has_bit byte 0 ∷ has_bit byte 1 ∷ has_bit byte 2 ∷ has_bit byte 3 ∷ has_bit byte 4 ∷ has_bit byte 5 ∷ has_bit byte 6 ∷ has_bit byte 7 ∷ []
-
--- the code's enum as the definitions have it
-abbrev pub found_of : Found → Option ℕ
-found_of (At c) = some c
-found_of Nobody = none
 
 -- the first place that is true among so many from c upward around the ring
 unfoldable pub true_from : ℕ → List Bool → ℕ → Option ℕ

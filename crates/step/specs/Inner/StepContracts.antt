@@ -1,14 +1,16 @@
 -- The enums of the code as the definitions have them, and what its functions need and say; no promise cites this file.
-use Rattle.std.specs.Prelude.{ℕ, ◌≡◌, true, List, length, get_or}
-use Rattle.builds.specs.Catalogue.{Catalogue, rules_of}
+use Rattle.std.specs.Prelude.{ℕ, ◌≡◌, Bool, true, false, Option, List, length, get_or}
+use Rattle.builds.specs.Catalogue.{Catalogue, catalogue_of, rules_of}
 use Rattle.builds.specs.Rule.{first_broken}
 use Rattle.builds.specs.Fault.{fault_of}
 use Rattle.builds.specs.Inner.Starts.{AllStarts}
-use Rattle.placed.specs.declared.rules.Tested.{Tested}
 use Rattle.placed.specs.Tested.{rule_broken}
 use Rattle.search.specs.declared.Seat.{Seat}
 use Rattle.search.specs.declared.Place.{Place}
+use Rattle.step.specs.declared.basis.Basis.{Basis}
 use Rattle.step.specs.declared.written.After.{After}
+use Rattle.step.specs.declared.written.Shown.{Shown}
+use Rattle.step.specs.declared.written.Shown.TheVariants.{Nothing, Left, Alternative}
 use Rattle.step.specs.declared.written.Way.{Way}
 use Rattle.step.specs.declared.written.Way.TheVariants.{GoOn, Build, Exhausted}
 use Rattle.search.specs.Clinic.{Clinic, clinic_of, seat_with}
@@ -29,32 +31,45 @@ depth_in Exhausted = 0
 
 -- ---- a step
 
+abbrev pub catalogue_in : Basis → Catalogue
+catalogue_in basis = catalogue_of basis.sizes.now basis.rules.now
+
 -- what a step needs: a catalogue without a fault, a record that fits it, a share, where the rules begin, and the edge
-pub record StepNeeds (catalogue : Catalogue) (seat : Seat) (share places counts edge : List ℕ) : Type 0 where
-  pub no_fault : fault_of catalogue ≡ 0
-  pub fits : seat_fits catalogue seat ≡ true
+pub record StepNeeds (basis : Basis) (seat : Seat) (share : List ℕ) : Type 0 where
+  pub no_fault : fault_of (catalogue_in basis) ≡ 0
+  pub fits : seat_fits (catalogue_in basis) seat ≡ true
   pub whole_share : length share ≡ 4096
-  pub starts : AllStarts catalogue.list places counts
-  pub the_edge : edge ≡ edge_bytes
+  pub starts : AllStarts basis.rules.now basis.places.now basis.counts.now
+  pub the_edge : basis.edge.now ≡ edge_bytes
 
 -- what it leaves: record and share of the written search, one step on
 abbrev pub Stepped : Catalogue → Clinic → Clinic → Type 0
 Stepped catalogue before after = after ≡ step catalogue before
 
 -- what trying an option needs, by what its test came to
-pub record TryNeeds (catalogue : Catalogue) (place : Place) (tested : Tested) (choices placed : List ℕ) : Type 0 where
+pub record TryNeeds (catalogue : Catalogue) (place : Place) (tested : Option ℕ) (placed : List ℕ) : Type 0 where
   pub no_fault : fault_of catalogue ≡ 0
   pub within : place_fits catalogue place ≡ true
-  pub sixteen_choices : length choices ≡ 16
   pub placed_so : PlacedAt place.depth placed
   pub tried : get_or placed place.depth 255 ≡ place.next
   pub is_tested : rule_broken tested ≡ first_broken (rules_of catalogue) place.depth placed
 
+-- which of the two masks gets the option's bit
+abbrev pub shows_left : Shown → Bool
+shows_left Nothing = false
+shows_left Left = true
+shows_left Alternative = false
+
+abbrev pub shows_alternative : Shown → Bool
+shows_alternative Nothing = false
+shows_alternative Left = false
+shows_alternative Alternative = true
+
 -- the record after a step, by what the step comes to, but for the last rule broken
 abbrev pub record_after : After → Place → List ℕ → Seat → Seat
 record_after after place placed seat =
-    seat_with after.state (masks_with after.left place.feature place.option seat.masks)
-    (masks_with after.alternative place.feature place.option seat.alternatives)
+    seat_with after.state (masks_with (shows_left after.shown) place.feature place.option seat.masks)
+    (masks_with (shows_alternative after.shown) place.feature place.option seat.alternatives)
     (kept_before after.depth placed) seat
 
 -- what a step comes to but for the last rule broken, for whichever record has these choices and this trial, whatever its

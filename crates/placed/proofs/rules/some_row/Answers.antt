@@ -11,7 +11,7 @@ use Rattle.placed.proofs.rules.some_row.Goals as goal
 use Rattle.placed.proofs.rules.some_row.Goals.{else-rows-place-via-then-rows-place+else-row_matches, else-rows-place-via-else-rows-place}
 
 pub option_at-last-requires : goal.option_at-last-requires
-option_at-last-requires c = rw c.wide.ensures.0 (every_at c.requires.each_below 0 _ (omega (arith, c.requires)))
+option_at-last-requires c = rw c.from.ensures (every_at c.requires.each_below 0 _ (omega (arith, c.requires)))
 
 pub loop-place-init : goal.loop-place-init
 loop-place-init c =
@@ -37,7 +37,7 @@ returns-then-row_matches c =
     let last-at : c.loop-place.place - n + n ≡ c.loop-place.place = omega arith in
     let span : c.loop-place.place - (c.loop-place.place - n) ≡ n = omega arith in
     let all : n - 0 ≡ n = omega arith in
-    let same = rw (c.option_at-last.ensures, c.wide.ensures.0) at c.if-rows-place.true in
+    let same = rw (c.option_at-last.ensures, c.from.ensures) at c.if-rows-place.true in
     rw whole at (last_equal c.args.rows.now c.args.features.now c.args.placed.now (c.loop-place.place - n) n (omega arith) (sym whole) (rw last-at same)) ∙ sym (rw (span, all) at c.row_matches.ensures) in
     λ count e. row_found (c.loop-place.invariant.2 count e) (omega arith) (row_tested ∙ c.if-row_matches.true)
 
@@ -54,12 +54,12 @@ loop-place-preserved c =
       | else-rows-place-via-then-rows-place+else-row_matches w ↦
           let span : place - (place - n) ≡ n = omega arith in
           let all : n - 0 ≡ n = omega arith in
-          let same = rw (c.option_at-last.ensures, c.wide.ensures.0) at w.if-rows-place.true in
+          let same = rw (c.option_at-last.ensures, c.from.ensures) at w.if-rows-place.true in
           rw whole at (last_equal a.rows.now a.features.now a.placed.now (place - n) n (omega arith) (sym whole) (rw last-at same))
           ∙ sym (rw (span, all) at w.row_matches.ensures)
           ∙ w.if-row_matches.false
       | else-rows-place-via-else-rows-place w ↦
-          let other = rw (c.option_at-last.ensures, c.wide.ensures.0) at w.if-rows-place.false in
+          let other = rw (c.option_at-last.ensures, c.from.ensures) at w.if-rows-place.false in
           rw whole at (last_differs a.rows.now a.features.now a.placed.now (place - n) n (omega arith) (sym whole) (rw last-at other))
     ] in
     let on : place + k - (k - 1) ≡ place - (k - 1) + k = omega arith in

@@ -1,4 +1,4 @@
-use Prim.Native.Nat.{◌<◌, ◌+◌, ◌-◌, ◌*◌, ◌%◌}
+use Prim.Native.Nat.{◌+◌, ◌-◌, ◌*◌, ◌%◌}
 use mathlib.Core.Path.{◌≡◌, refl, sym, ap}
 use native.Mathlib.Numerals.{add-one}
 use native.Mathlib.Omega.{arith}
@@ -24,8 +24,8 @@ pub slice_bounds-highest-end : goal.slice_bounds-highest-end
 slice_bounds-highest-end c =
     let part_length : length (take (length c.args.rules.now - c.loop-place.place) (drop c.loop-place.place c.args.rules.now)) ≡ length (drop c.loop-place.place c.args.rules.now) = ap length (left_lent c.args.rules.now c.loop-place.place) in
     let whole_here : WholeRule (drop c.loop-place.place c.args.rules.now) = whole_now c.loop-place.invariant c.loop-place-test.true in
-    let arity_read : c.wide-k.result ≡ arity (drop c.loop-place.place c.args.rules.now) = rw left_lent at c.wide-k.ensures.0 in
-    let width_read : 2 + c.wide-k.result + c.wide-k.result * c.wide-m.result ≡ width (drop c.loop-place.place c.args.rules.now) = let rows = rw left_lent at c.wide-m.ensures.0 in rw (arity_read, rows) in
+    let arity_read : c.from-k.result ≡ arity (drop c.loop-place.place c.args.rules.now) = rw left_lent at c.from-k.ensures in
+    let width_read : 2 + c.from-k.result + c.from-k.result * c.from-m.result ≡ width (drop c.loop-place.place c.args.rules.now) = let rows = rw left_lent at c.from-m.ensures in rw (arity_read, rows) in
     omega (arith, width_read, part_length, whole_here.in_list)
 
 pub bounds-places-feature : goal.bounds-places-feature
@@ -40,9 +40,9 @@ bounds-counts-feature-then-feature-lt16 c =
 
 pub loop-place-preserved : goal.loop-place-preserved
 loop-place-preserved c =
-    let arity_read : c.wide-k.result ≡ arity (drop c.loop-place.place c.args.rules.now) = rw left_lent at c.wide-k.ensures.0 in
-    let width_read : 2 + c.wide-k.result + c.wide-k.result * c.wide-m.result ≡ width (drop c.loop-place.place c.args.rules.now) = let rows = rw left_lent at c.wide-m.ensures.0 in rw (arity_read, rows) in
-    let highest_read : c.highest-feature.result ≡ highest (features_read (drop c.loop-place.place c.args.rules.now)) = let span : 2 + c.wide-k.result - 2 ≡ c.wide-k.result = omega arith in
+    let arity_read : c.from-k.result ≡ arity (drop c.loop-place.place c.args.rules.now) = rw left_lent at c.from-k.ensures in
+    let width_read : 2 + c.from-k.result + c.from-k.result * c.from-m.result ≡ width (drop c.loop-place.place c.args.rules.now) = let rows = rw left_lent at c.from-m.ensures in rw (arity_read, rows) in
+    let highest_read : c.highest-feature.result ≡ highest (features_read (drop c.loop-place.place c.args.rules.now)) = let span : 2 + c.from-k.result - 2 ≡ c.from-k.result = omega arith in
     rw (span, left_lent, arity_read) at c.highest-feature.ensures in
     let read = highest_read in
     let next = width_read in
@@ -52,7 +52,7 @@ loop-place-preserved c =
       | then-feature-lt16 w ↦
           let low = below_64 c.loop-place.invariant c.loop-place-test.true c.highest-feature.result w.if-feature-lt16.true in
           let fits : (count + 1) % 256 ≡ count + 1 = omega arith in
-          rw (w.places-is, w.counts-is, small, fits, next, add-one c.loop-place.number)
+          rw (w.places-is, w.counts-is, w.from-count.ensures, small, fits, next, add-one c.loop-place.number)
           (note c.loop-place.invariant c.loop-place-test.true c.highest-feature.result count w.if-feature-lt16.true refl (sym read))
       | else-feature-lt16 w ↦
           rw (w.places-is, w.counts-is, next, add-one c.loop-place.number)

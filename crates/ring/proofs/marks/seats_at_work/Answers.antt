@@ -24,18 +24,16 @@ marked seats working c mark l k h before =
 
 pub loop-c-preserved : goal.loop-c-preserved
 loop-c-preserved c =
-    let eight : length c.args.seats ≡ 8 = c.well_formed.0.1.0.1 in (
-      omega arith,
-      rw c.with_mark-working.ensures
-          (marked c.args.seats (marks_of c.loop-c.working) c.loop-c.c c.is_at_work.result (omega (arith, eight_in c.loop-c.working)) (omega arith) c.is_at_work.ensures
-          c.loop-c.invariant.1),
-    )
+    let eight : length c.args.seats ≡ 8 = c.well_formed.0.1.0.1 in
+    rw c.with_mark-working.ensures
+    (marked c.args.seats (marks_of c.loop-c.working) c.loop-c.c c.is_at_work.result (omega (arith, eight_in c.loop-c.working)) (omega arith) c.is_at_work.ensures
+    c.loop-c.invariant)
 
 pub returns : goal.returns
 returns c =
     let working = marks_of c.loop-c.working in
     let eight : length c.args.seats ≡ 8 = c.well_formed.0.1.0.1 in
     let all : c.loop-c.c ≡ 8 = omega arith in
-    let same : take 8 working ≡ take 8 (marks c.args.seats) = rw all at c.loop-c.invariant.1 in
+    let same : take 8 working ≡ take 8 (marks c.args.seats) = rw all at c.loop-c.invariant in
     let short : length (marks c.args.seats) ≤ 8 = rw length-map (omega arith) in
     sym (take_all 8 working (omega (arith, eight_in c.loop-c.working))) ∙ same ∙ take_all 8 (marks c.args.seats) short

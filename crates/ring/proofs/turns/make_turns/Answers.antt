@@ -1,9 +1,10 @@
-use Prim.Native.Nat.{ℕ, ◌+◌, ◌*◌, ◌<◌, ◌≤◌}
-use mathlib.Core.Path.{◌≡◌, refl, sym, ap, ◌∙◌}
+use Prim.Native.Nat.{ℕ, ◌+◌, ◌*◌, ◌<◌}
+use mathlib.Core.Path.{◌≡◌, refl, sym, ◌∙◌}
 use mathlib.Core.Bool.{Bool, true, false}
 use mathlib.Core.List.{List}
-use mathlib.Core.Logic.{◌⊎◌, inl, inr}
-use mathlib.Core.Option.{none, some}
+use mathlib.Core.Logic.{inl, inr}
+use mathlib.Core.Option.{some}
+use native.Mathlib.Omega.{arith}
 use borrow.Author.Rules.{rules}
 use lib.ListN.{length, set, length-replicate}
 use Rattle.builds.specs.Catalogue.{Catalogue, catalogue_of}
@@ -13,8 +14,7 @@ use Rattle.builds.specs.Fault.{fault_of}
 use Rattle.search.specs.declared.Seat.{Seat}
 use Rattle.search.specs.Clinic.{clinic_of}
 use Rattle.search.specs.Step.{step}
-use Rattle.ring.specs.Inner.Marks.{found_of, true_from}
-use Rattle.ring.specs.Inner.Marks.{marks_of}
+use Rattle.ring.specs.Inner.Marks.{marks_of, true_from}
 use Rattle.runs.specs.Room.{Room, room_of, clinic_at, with_clinic}
 use Rattle.runs.specs.Turn.{is_at_work, turn_for}
 use Rattle.runs.proofs.DeskLengths.{eight_seats_lem, sixteen_each}
@@ -24,7 +24,6 @@ use Rattle.runs.proofs.TurnByTurn.{none_made}
 use Rattle.ring.proofs.Turning.{Turning, found_below, still_marked, turn_made, turns_done}
 use Rattle.ring.proofs.turns.make_turns.Invariants.{room}
 use Rattle.ring.proofs.turns.make_turns.Goals as goal
-use Rattle.ring.proofs.turns.make_turns.Goals.{else-loop-made-test, then-loop-made-test+in_default}
 
 -- after the step: the clinic as it leaves it, and the room, with the mark made anew
 turned_so : {catalogue : Catalogue} {w : ℕ} {start : Room} {made : ℕ} {working : List Bool} {seats : List Seat} {next : ℕ} {board : List ℕ}
@@ -58,20 +57,20 @@ loop-made-init c =
 
 pub overflow_mul-from : goal.overflow_mul-from
 overflow_mul-from c =
-    let found : true_from 8 (marks_of c.loop-made.working) c.loop-made.next ≡ some c.in-At.c = sym c.first_at_work.ensures ∙ ap found_of c.in-At.is in
-    let seat_below : c.in-At.c < 8 = found_below c.loop-made.invariant c.in-At.c found in
+    let found : true_from 8 (marks_of c.loop-made.working) c.loop-made.next ≡ some c.in-Some.c = c.in-Some.ensures in
+    let seat_below : c.in-Some.c < 8 = found_below c.loop-made.invariant c.in-Some.c found in
     let l = seat_below in search rules
 
 pub overflow_add-share : goal.overflow_add-share
 overflow_add-share c =
-    let found : true_from 8 (marks_of c.loop-made.working) c.loop-made.next ≡ some c.in-At.c = sym c.first_at_work.ensures ∙ ap found_of c.in-At.is in
-    let seat_below : c.in-At.c < 8 = found_below c.loop-made.invariant c.in-At.c found in
+    let found : true_from 8 (marks_of c.loop-made.working) c.loop-made.next ≡ some c.in-Some.c = c.in-Some.ensures in
+    let seat_below : c.in-Some.c < 8 = found_below c.loop-made.invariant c.in-Some.c found in
     let l = seat_below in search rules
 
 pub slice_bounds-share-end : goal.slice_bounds-share-end
 slice_bounds-share-end c =
-    let found : true_from 8 (marks_of c.loop-made.working) c.loop-made.next ≡ some c.in-At.c = sym c.first_at_work.ensures ∙ ap found_of c.in-At.is in
-    let seat_below : c.in-At.c < 8 = found_below c.loop-made.invariant c.in-At.c found in
+    let found : true_from 8 (marks_of c.loop-made.working) c.loop-made.next ≡ some c.in-Some.c = c.in-Some.ensures in
+    let seat_below : c.in-Some.c < 8 = found_below c.loop-made.invariant c.in-Some.c found in
     let l = seat_below in
     search rules
 
@@ -79,33 +78,33 @@ pub loop-made-preserved-then-is_at_work : goal.loop-made-preserved-then-is_at_wo
 unfolding with_clinic
 loop-made-preserved-then-is_at_work c =
     let l = c.loop-made in
-    let found : true_from 8 (marks_of l.working) l.next ≡ some c.in-At.c = sym c.first_at_work.ensures ∙ ap found_of c.in-At.is in
-    let below : c.in-At.c < 8 = found_below l.invariant c.in-At.c found in
+    let found : true_from 8 (marks_of l.working) l.next ≡ some c.in-Some.c = c.in-Some.ensures in
+    let below : c.in-Some.c < 8 = found_below l.invariant c.in-Some.c found in
     let share = c.stepped-seat.new.share in
-    let full : length share ≡ 4096 = c.stepped-seat.auto.share ∙ lent_length l.board c.in-At.c l.invariant.sound.board_length below in
-    let same = rw (lent_is l.board c.in-At.c) at c.stepped-seat.ensures in
+    let full : length share ≡ 4096 = c.stepped-seat.auto.share ∙ lent_length l.board c.in-Some.c l.invariant.sound.board_length below in
+    let same = rw (lent_is l.board c.in-Some.c) at c.stepped-seat.ensures in
     let at_work : is_at_work c.stepped-seat.result.state ≡ true = sym c.is_at_work.ensures ∙ c.if-is_at_work.true in
-    let made = turned_so l.invariant c.requires.sound.1 c.loop-made-test.true c.in-At.c found c.stepped-seat.result share same true at_work in
-    rw (back_is l.board c.in-At.c share full) (rw (still_marked l.invariant c.in-At.c found) at made)
+    let made = turned_so l.invariant c.requires.sound.1 c.loop-made-test.true c.in-Some.c found c.stepped-seat.result share same true at_work in
+    rw (back_is l.board c.in-Some.c share full) (rw (still_marked l.invariant c.in-Some.c found) at made)
 
 pub loop-made-preserved : goal.loop-made-preserved
 unfolding with_clinic
 loop-made-preserved c =
     let l = c.loop-made in
-    let found : true_from 8 (marks_of l.working) l.next ≡ some c.in-At.c = sym c.first_at_work.ensures ∙ ap found_of c.in-At.is in
-    let below : c.in-At.c < 8 = found_below l.invariant c.in-At.c found in
+    let found : true_from 8 (marks_of l.working) l.next ≡ some c.in-Some.c = c.in-Some.ensures in
+    let below : c.in-Some.c < 8 = found_below l.invariant c.in-Some.c found in
     let share = c.stepped-seat.new.share in
-    let full : length share ≡ 4096 = c.stepped-seat.auto.share ∙ lent_length l.board c.in-At.c l.invariant.sound.board_length below in
-    let same = rw (lent_is l.board c.in-At.c) at c.stepped-seat.ensures in
+    let full : length share ≡ 4096 = c.stepped-seat.auto.share ∙ lent_length l.board c.in-Some.c l.invariant.sound.board_length below in
+    let same = rw (lent_is l.board c.in-Some.c) at c.stepped-seat.ensures in
     let idle : is_at_work c.stepped-seat.result.state ≡ false = sym c.is_at_work.ensures ∙ c.if-is_at_work.false in
-    let made = turned_so l.invariant c.requires.sound.1 c.loop-made-test.true c.in-At.c found c.stepped-seat.result share same false idle in
-    rw (c.with_mark-working.ensures, back_is l.board c.in-At.c share full) made
+    let made = turned_so l.invariant c.requires.sound.1 c.loop-made-test.true c.in-Some.c found c.stepped-seat.result share same false idle in
+    rw (c.with_mark-working.ensures, back_is l.board c.in-Some.c share full) made
+
+-- the call is done where nobody is at work, and where all its turns are made
+pub returns-in_default : goal.returns-in_default
+returns-in_default c = rw c.turned.ensures (turns_done c.loop-made.invariant (inr c.in_default.ensures))
 
 pub returns : goal.returns
 returns c =
-    let ended : (c.args.w ≤ c.loop-made.made) ⊎ (true_from 8 (marks_of c.loop-made.working) c.loop-made.next ≡ none) =
-    elim c.loop-made-test.branch [
-      | else-loop-made-test w ↦ inl w.loop-made-test.false
-      | then-loop-made-test+in_default w ↦ inr (sym w.first_at_work.ensures ∙ ap found_of w.in_default.is)
-    ] in
-    rw c.turned.ensures (turns_done c.loop-made.invariant ended)
+    let all : c.loop-made.made ≡ c.args.w = omega arith in
+    rw c.turned-2.ensures (rw all at (turns_done c.loop-made.invariant (inl c.loop-made-test.false)))

@@ -1,7 +1,7 @@
 -- Between two turns it holds what `Turning` says. The seat that the search finds is the one that the next turn serves; its
 -- share is lent to the step and comes back as the step leaves it, so the room is that of one turn more. Its mark is cleared
 -- where its job has ended, and stays where it has not.
-use Prim.Native.Nat.{ℕ, ◌-◌}
+use Prim.Native.Nat.{ℕ}
 use mathlib.Core.List.{List}
 use Rattle.builds.specs.Catalogue.{catalogue_of}
 use Rattle.search.specs.declared.Seat.{Seat}
@@ -15,6 +15,3 @@ room seats next board = room_of (record { seats = seats; next = next }) board
 
 abbrev pub invariant-loop-made : goal.invariant-loop-made
 invariant-loop-made l = Turning (catalogue_of l.sizes l.rules) l.w (room l.initial.seats l.initial.next l.initial.board) l.made (marks_of l.working) (room l.seats l.next l.board)
-
-abbrev pub decreases-loop-made : goal.decreases-loop-made
-decreases-loop-made l = l.w - l.made

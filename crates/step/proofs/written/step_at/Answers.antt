@@ -1,101 +1,92 @@
 -- The record fits the catalogue, so what is placed is the trial with the option to be tried in it, and what the step comes
 -- to is what the arrays are made by.
-use Prim.Native.Nat.{ℕ, ◌<◌}
+use Prim.Native.Nat.{ℕ}
 use mathlib.Core.Path.{◌≡◌, refl, ◌∙◌}
 use native.Mathlib.Omega.{arith}
 use borrow.Author.Rules.{rules}
 use lib.ListN.{length, length-set}
-use Rattle.builds.specs.Catalogue.{Catalogue, catalogue_of}
-use Rattle.placed.specs.declared.rules.Tested.{Tested}
+use Rattle.builds.specs.Catalogue.{Catalogue}
+use Rattle.std.specs.Prelude.{Option}
 use Rattle.placed.specs.Tested.{rule_broken}
 use Rattle.search.specs.declared.Place.{Place}
 use Rattle.search.specs.Clinic.{Clinic, clinic_of, with_broken}
 use Rattle.search.specs.Step.{search_at, test_at, broken_after, step_at}
-use Rattle.search.proofs.FitsInWords.{PlaceFits, fits_place, SeatFits, seat_fits_lem}
-use Rattle.search.proofs.KeptBefore.{kept_under}
-use Rattle.search.proofs.PlaceBounds.{feature_below_16, option_below_16, depth_below_16, place_at_work, nothing_from_depth, trial_bytes, tried_there, placed_so}
+use Rattle.search.proofs.FitsInWords.{fits_place}
+use denote.Enum.Bare.{sameb}
+use Rattle.step.specs.contracts.written.Shown.{the_type}
+use Rattle.step.specs.declared.written.Shown.{Shown}
+use Rattle.step.specs.declared.written.Shown.TheVariants.{Nothing, Left, Alternative}
+use Rattle.step.specs.Inner.StepContracts.{catalogue_in, shows_left, shows_alternative}
+use Rattle.step.proofs.InPlace.{place_fits, shallow, pair_below, nothing_from_depth, trial_bytes, tried_there, placed_so, trial_under}
 use Rattle.step.proofs.written.step_at.Goals as goal
 
 -- the search goes on as `after_step` says, and then the rule that the test named is kept
-kept_so : (catalogue : Catalogue) (place : Place) (tested : Tested) (clinic after : Clinic) (broken : ℕ)
+kept_so : (catalogue : Catalogue) (place : Place) (tested : Option ℕ) (clinic after : Clinic) (broken : ℕ)
     → rule_broken tested ≡ test_at catalogue place clinic → after ≡ search_at catalogue place clinic
     → broken ≡ broken_after after.seat.state (rule_broken tested) clinic.seat.broken
     → with_broken broken after ≡ step_at catalogue place clinic
 unfolding step_at
 kept_so catalogue place tested clinic after broken named came kept = rw (kept, named, came) refl
 
+-- the code's comparisons are the two cases that set a bit
+left_shown : (shown : Shown) → sameb the_type shown Left ≡ shows_left shown
+left_shown Nothing = refl
+left_shown Left = refl
+left_shown Alternative = refl
+
+alternative_shown : (shown : Shown) → sameb the_type shown Alternative ≡ shows_alternative shown
+alternative_shown Nothing = refl
+alternative_shown Left = refl
+alternative_shown Alternative = refl
+
 pub bounds-placed-j : goal.bounds-placed-j
-bounds-placed-j c =
-    let fits : SeatFits (catalogue_of c.args.sizes.now c.args.rules.now) c.args.seat = seat_fits_lem (catalogue_of c.args.sizes.now c.args.rules.now) c.args.seat c.requires.needs.fits in
-    let within : PlaceFits (catalogue_of c.args.sizes.now c.args.rules.now) c.args.place = place_at_work (catalogue_of c.args.sizes.now c.args.rules.now) c.requires.needs.no_fault c.args.seat fits c.args.place c.requires.at_work in
-    let shallow : c.args.place.depth < 16 = depth_below_16 (catalogue_of c.args.sizes.now c.args.rules.now) c.requires.needs.no_fault within in
-    shallow
+bounds-placed-j c = shallow c.requires.needs c.requires.at_work
 
 pub tested_at-tested-requires : goal.tested_at-tested-requires
 tested_at-tested-requires c =
-    let fits : SeatFits (catalogue_of c.args.sizes.now c.args.rules.now) c.args.seat = seat_fits_lem (catalogue_of c.args.sizes.now c.args.rules.now) c.args.seat c.requires.needs.fits in
-    let within : PlaceFits (catalogue_of c.args.sizes.now c.args.rules.now) c.args.place = place_at_work (catalogue_of c.args.sizes.now c.args.rules.now) c.requires.needs.no_fault c.args.seat fits c.args.place c.requires.at_work in
-    let shallow : c.args.place.depth < 16 = depth_below_16 (catalogue_of c.args.sizes.now c.args.rules.now) c.requires.needs.no_fault within in
-    let trial_long : length c.args.seat.trial ≡ 16 = search rules in
+    let sixteen : length c.args.seat.trial ≡ 16 = search rules in
     record {
       starts_known = (c.requires.needs.no_fault, c.requires.needs.starts);
-      sixteen_placed = (shallow, length-set c.args.seat.trial c.args.place.depth c.args.place.next ∙ trial_long);
+      sixteen_placed = (shallow c.requires.needs c.requires.at_work, length-set c.args.seat.trial c.args.place.depth c.args.place.next ∙ sixteen);
     }
 
 pub after_step-after-requires : goal.after_step-after-requires
 after_step-after-requires c =
-    let fits : SeatFits (catalogue_of c.args.sizes.now c.args.rules.now) c.args.seat = seat_fits_lem (catalogue_of c.args.sizes.now c.args.rules.now) c.args.seat c.requires.needs.fits in
-    let within : PlaceFits (catalogue_of c.args.sizes.now c.args.rules.now) c.args.place = place_at_work (catalogue_of c.args.sizes.now c.args.rules.now) c.requires.needs.no_fault c.args.seat fits c.args.place c.requires.at_work in
-    let trial_long : length c.args.seat.trial ≡ 16 = search rules in
-    let choices_long : length c.args.seat.choices ≡ 16 = search rules in
+    let sixteen : length c.args.seat.trial ≡ 16 = search rules in
     record {
       needs = record {
         no_fault = c.requires.needs.no_fault;
-        within = fits_place within;
-        sixteen_choices = choices_long;
-        placed_so = placed_so (catalogue_of c.args.sizes.now c.args.rules.now) c.requires.needs.no_fault c.args.seat fits c.args.place c.requires.at_work trial_long;
-        tried = tried_there (catalogue_of c.args.sizes.now c.args.rules.now) c.requires.needs.no_fault c.args.seat fits c.args.place c.requires.at_work trial_long;
+        within = fits_place (place_fits c.requires.needs c.requires.at_work);
+        placed_so = placed_so c.requires.needs c.requires.at_work sixteen;
+        tried = tried_there c.requires.needs c.requires.at_work sixteen;
         is_tested = c.tested_at-tested.ensures;
       };
       whole_share = c.requires.needs.whole_share;
     }
 
 pub masks_after-requires : goal.masks_after-requires
-masks_after-requires c =
-    let fits : SeatFits (catalogue_of c.args.sizes.now c.args.rules.now) c.args.seat = seat_fits_lem (catalogue_of c.args.sizes.now c.args.rules.now) c.args.seat c.requires.needs.fits in
-    let within : PlaceFits (catalogue_of c.args.sizes.now c.args.rules.now) c.args.place = place_at_work (catalogue_of c.args.sizes.now c.args.rules.now) c.requires.needs.no_fault c.args.seat fits c.args.place c.requires.at_work in
-    let pair_below : (c.args.place.feature < 16) × (c.args.place.option < 16) = (feature_below_16 (catalogue_of c.args.sizes.now c.args.rules.now) c.requires.needs.no_fault within, option_below_16 (catalogue_of c.args.sizes.now c.args.rules.now) c.requires.needs.no_fault within) in
-    pair_below
+masks_after-requires c = pair_below c.requires.needs c.requires.at_work
 
 pub trial_after-requires : goal.trial_after-requires
 trial_after-requires c =
-    let fits : SeatFits (catalogue_of c.args.sizes.now c.args.rules.now) c.args.seat = seat_fits_lem (catalogue_of c.args.sizes.now c.args.rules.now) c.args.seat c.requires.needs.fits in
-    let within : PlaceFits (catalogue_of c.args.sizes.now c.args.rules.now) c.args.place = place_at_work (catalogue_of c.args.sizes.now c.args.rules.now) c.requires.needs.no_fault c.args.seat fits c.args.place c.requires.at_work in
-    let shallow : c.args.place.depth < 16 = depth_below_16 (catalogue_of c.args.sizes.now c.args.rules.now) c.requires.needs.no_fault within in
-    let trial_long : length c.args.seat.trial ≡ 16 = search rules in
+    let sixteen : length c.args.seat.trial ≡ 16 = search rules in
     record {
-      depth_within = (shallow, c.after_step-after.ensures.depth_in_reach, c.requires.needs.the_edge);
+      depth_within = (shallow c.requires.needs c.requires.at_work, c.after_step-after.ensures.depth_in_reach, c.requires.needs.the_edge);
       entries = (
-        nothing_from_depth (catalogue_of c.args.sizes.now c.args.rules.now) c.requires.needs.no_fault c.args.seat fits c.args.place c.requires.at_work trial_long c.args.place.depth (omega arith),
-        trial_bytes (catalogue_of c.args.sizes.now c.args.rules.now) c.requires.needs.no_fault c.args.seat fits c.args.place c.requires.at_work trial_long,
+        nothing_from_depth c.requires.needs c.requires.at_work sixteen c.args.place.depth (omega arith),
+        trial_bytes c.requires.needs c.requires.at_work sixteen,
       );
     }
 
 pub masks_after-requires-2 : goal.masks_after-requires-2
-masks_after-requires-2 c =
-    let fits : SeatFits (catalogue_of c.args.sizes.now c.args.rules.now) c.args.seat = seat_fits_lem (catalogue_of c.args.sizes.now c.args.rules.now) c.args.seat c.requires.needs.fits in
-    let within : PlaceFits (catalogue_of c.args.sizes.now c.args.rules.now) c.args.place = place_at_work (catalogue_of c.args.sizes.now c.args.rules.now) c.requires.needs.no_fault c.args.seat fits c.args.place c.requires.at_work in
-    let pair_below : (c.args.place.feature < 16) × (c.args.place.option < 16) = (feature_below_16 (catalogue_of c.args.sizes.now c.args.rules.now) c.requires.needs.no_fault within, option_below_16 (catalogue_of c.args.sizes.now c.args.rules.now) c.requires.needs.no_fault within) in
-    pair_below
+masks_after-requires-2 c = pair_below c.requires.needs c.requires.at_work
 
 pub returns : goal.returns
 returns c =
-    let fits : SeatFits (catalogue_of c.args.sizes.now c.args.rules.now) c.args.seat = seat_fits_lem (catalogue_of c.args.sizes.now c.args.rules.now) c.args.seat c.requires.needs.fits in
-    let within : PlaceFits (catalogue_of c.args.sizes.now c.args.rules.now) c.args.place = place_at_work (catalogue_of c.args.sizes.now c.args.rules.now) c.requires.needs.no_fault c.args.seat fits c.args.place c.requires.at_work in
-    let shallow : c.args.place.depth < 16 = depth_below_16 (catalogue_of c.args.sizes.now c.args.rules.now) c.requires.needs.no_fault within in
-    let trial_long : length c.args.seat.trial ≡ 16 = search rules in
-    let nothing = nothing_from_depth (catalogue_of c.args.sizes.now c.args.rules.now) c.requires.needs.no_fault c.args.seat fits c.args.place c.requires.at_work trial_long in
-    let under = kept_under c.args.seat.trial trial_long c.args.place.depth c.args.place.next (omega (arith, shallow)) nothing in
-    rw (c.masks_after.ensures, c.trial_after.ensures, c.masks_after-2.ensures)
-    (kept_so (catalogue_of c.args.sizes.now c.args.rules.now) c.args.place c.tested_at-tested.result (clinic_of c.args.seat c.args.share.now) _ _
-    c.tested_at-tested.ensures (c.after_step-after.ensures.comes_to c.args.seat refl under) c.broken_after.ensures)
+    let sixteen : length c.args.seat.trial ≡ 16 = search rules in
+    let left = c.eq-left.ensures ∙ left_shown c.after_step-after.result.shown in
+    let alternative = c.eq-alternative.ensures ∙ alternative_shown c.after_step-after.result.shown in
+    rw (c.masks_after.ensures, c.trial_after.ensures, c.masks_after-2.ensures, left, alternative)
+    (kept_so (catalogue_in c.args.basis.now) c.args.place c.tested_at-tested.result (clinic_of c.args.seat c.args.share.now) _ _
+    c.tested_at-tested.ensures (c.after_step-after.ensures.comes_to c.args.seat refl (trial_under c.requires.needs c.requires.at_work sixteen))
+    c.broken_after.ensures)

@@ -2,21 +2,22 @@
 use Prim.Native.Nat.{◌+◌, ◌-◌, ◌*◌}
 use mathlib.Core.Path.{◌≡◌}
 use native.Mathlib.Omega.{arith}
-use Rattle.builds.specs.Catalogue.{catalogue_of, rules_of}
+use Rattle.builds.specs.Catalogue.{rules_of}
 use Rattle.builds.proofs.Faultless.{fault_whole}
 use Rattle.builds.proofs.Format.{fault_below}
+use Rattle.step.specs.Inner.StepContracts.{catalogue_in}
 use Rattle.step.proofs.written.tested_at.Goals as goal
 
 pub test-requires : goal.test-requires
 test-requires c =
-    let catalogue = catalogue_of c.args.sizes.now c.args.rules.now in
-    let span : c.args.j * 64 + c.byte-count.result - c.args.j * 64 ≡ c.byte-count.result = omega arith in
-    let span-2 : 16 + c.args.j * 64 + c.byte-count.result - (16 + c.args.j * 64) ≡ c.byte-count.result = omega arith in
+    let catalogue = catalogue_in c.args.basis.now in
+    let span : c.args.j * 64 + c.from-count.result - c.args.j * 64 ≡ c.from-count.result = omega arith in
+    let span-2 : 16 + c.args.j * 64 + c.from-count.result - (16 + c.args.j * 64) ≡ c.from-count.result = omega arith in
     record {
       rules_whole = fault_whole catalogue c.requires.starts_known.0;
       starts_known = (
-        rw (span, c.byte-count.ensures.0) (c.requires.starts_known.1.are_starts c.args.j c.requires.sixteen_placed.0),
-        rw (span-2, c.byte-count.ensures.0) (c.requires.starts_known.1.are_numbers c.args.j c.requires.sixteen_placed.0),
+        rw (span, c.from-count.ensures) (c.requires.starts_known.1.are_starts c.args.j c.requires.sixteen_placed.0),
+        rw (span-2, c.from-count.ensures) (c.requires.starts_known.1.are_numbers c.args.j c.requires.sixteen_placed.0),
       );
       features_below = rw c.requires.sixteen_placed.1 (fault_below catalogue c.requires.starts_known.0);
     }
