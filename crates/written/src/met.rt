@@ -54,7 +54,10 @@ fn width(rule: &[u16]) -> usize {
 
 // Of a list that is too long no rule is read.
 pub fn meet(sizes: &[u8], rules: &[u16]) -> Met {
-    let fault = catalogue::fault(sizes, rules);
+    let fault = match catalogue::fault(sizes, rules) {
+        Ok(()) => 0,
+        Err(refusal) => refusal.number(),
+    };
     if fault == 12 {
         return Met {
             fault,
@@ -93,7 +96,7 @@ fn stands(sizes: &[u8], rule: &[u16]) -> bool {
     if rule.len() == 0 {
         return false;
     }
-    catalogue::fault(sizes, rule) == 0
+    catalogue::fault(sizes, rule).is_ok()
 }
 
 // The first feature whose size is 0 or above 16.
