@@ -1,99 +1,78 @@
-// The fault met first: one function for each part of the reading, one loop each.
-ghost use Rattle.std.specs.Prelude.{◌≡◌, [], ◌≤◌, ◌*◌, length};
-ghost use Rattle.builds.specs.Lists.{member};
+// The fault met first: one function for each part of the reading, one walk each.
+ghost use Rattle.std.specs.Prelude.{◌≡◌, ℕ, [], ◌≤◌, ◌<◌, ◌*◌, length};
+ghost use Rattle.numbers.specs.Refusal.{refusal_number};
 ghost use Rattle.builds.specs.Fault.{sizes_fault, features_fault, row_fits, rows_fault, rule_fault, rules_fault, fault_of};
 ghost use Rattle.builds.specs.Catalogue.{arity, width};
 
-use numbers::{size_at, wide};
+use numbers::{Refusal, size_at};
 
-// 10 to 18, or 0 for none.
-pub fn fault(sizes: &[u8], rules: &[u16]) -> u8
-    ensures { result ≡ fault_of (record { sizes = sizes.now; list = rules.now }) }
+// 10 to 18, or none.
+pub fn fault(sizes: &[u8], rules: &[u16]) -> Result<(), Refusal>
+    ensures { refusal_number result ≡ fault_of (record { sizes = sizes.now; list = rules.now }) }
 {
-    if sizes.len() == 0 {
-        return 10;
+    if sizes.is_empty() || 16 < sizes.len() {
+        return Err(Refusal::FeatureCountOutOfRange);
     }
-    if 16 < sizes.len() {
-        return 10;
-    }
-    let of_sizes = sizes_fault(sizes);
-    if of_sizes != 0 {
-        return of_sizes;
-    }
+    sizes_fault(sizes)?;
     if 8192 < rules.len() {
-        return 12;
+        return Err(Refusal::RuleListTooLong);
     }
     rules_fault(sizes, rules)
 }
 
-fn sizes_fault(sizes: &[u8]) -> u8
-    ensures { result ≡ sizes_fault sizes.now }
+fn sizes_fault(sizes: &[u8]) -> Result<(), Refusal>
+    ensures { refusal_number result ≡ sizes_fault sizes.now }
 {
-    let mut i = 0;
-    while i < sizes.len() {
-        let size = sizes[i];
-        if size == 0 {
-            return 11;
-        }
-        if 16 < size {
-            return 11;
-        }
-        i += 1;
+    if sizes.iter().all(|size| 1 <= *size && *size <= 16) {
+        Ok(())
+    } else {
+        Err(Refusal::SizeOutOfRange)
     }
-    0
 }
 
 // Rule by rule while numbers remain, 64 at most.
-fn rules_fault(sizes: &[u8], rules: &[u16]) -> u8
-    ensures { result ≡ rules_fault 64 sizes.now rules.now }
+fn rules_fault(sizes: &[u8], rules: &[u16]) -> Result<(), Refusal>
+    ensures { refusal_number result ≡ rules_fault 64 sizes.now rules.now }
 {
-    let mut left = 64usize;
-    let mut place = 0;
-    while place < rules.len() {
-        if left == 0 {
-            return 13;
+    let mut rest = rules;
+    for passed in 0..64usize {
+        if rest.is_empty() {
+            return Ok(());
         }
-        let rest = &rules[place..];
-        let of_rule = rule_fault(sizes, rest);
-        if of_rule != 0 {
-            return of_rule;
-        }
-        place += rule_width(rest);
-        left -= 1;
+        rule_fault(sizes, rest)?;
+        rest = &rest[rule_width(rest)..];
     }
-    0
+    if rest.is_empty() {
+        Ok(())
+    } else {
+        Err(Refusal::TooManyRules)
+    }
 }
 
 // The rule at the front of the list: header, arity, features, rows, each before it is read.
-fn rule_fault(sizes: &[u8], list: &[u16]) -> u8
-    ensures { result ≡ rule_fault sizes.now list.now }
+fn rule_fault(sizes: &[u8], list: &[u16]) -> Result<(), Refusal>
+    ensures { refusal_number result ≡ rule_fault sizes.now list.now }
 {
     if list.len() < 2 {
-        return 14;
+        return Err(Refusal::RuleListEndsEarly);
     }
-    let k = wide(list[0]);
-    let m = wide(list[1]);
-    if k == 0 {
-        return 15;
-    }
-    if 6 < k {
-        return 15;
+    let k = usize::from(list[0]);
+    let m = usize::from(list[1]);
+    if k == 0 || 6 < k {
+        return Err(Refusal::ArityOutOfRange);
     }
     if list.len() - 2 < k {
-        return 14;
+        return Err(Refusal::RuleListEndsEarly);
     }
     let body = 2 + k;
     let features = &list[2..body];
-    let of_features = features_fault(sizes.len(), features);
-    if of_features != 0 {
-        return of_features;
-    }
+    features_fault(sizes.len(), features)?;
     let room = k * m;
     if list.len() - body < room {
-        return 14;
+        return Err(Refusal::RuleListEndsEarly);
     }
     let end = body + room;
-    rows_fault(sizes, features, &list[body..end], m)
+    rows_fault(sizes, features, &list[body..end])
 }
 
 // How many numbers the rule at the front of the list takes.
@@ -101,69 +80,43 @@ fn rule_width(list: &[u16]) -> usize
     requires { (2 ≤ length list.now) × (arity list.now ≤ 6) }
     ensures { result ≡ width list.now }
 {
-    let k = wide(list[0]);
-    let m = wide(list[1]);
+    let k = usize::from(list[0]);
+    let m = usize::from(list[1]);
     2 + k + k * m
 }
 
-fn features_fault(count: usize, features: &[u16]) -> u8
-    ensures { result ≡ features_fault count [] features.now }
+fn features_fault(count: usize, features: &[u16]) -> Result<(), Refusal>
+    ensures { refusal_number result ≡ features_fault count [] features.now }
 {
-    let mut i = 0;
-    while i < features.len() {
-        let feature = features[i];
-        if count <= wide(feature) {
-            return 16;
+    for (i, feature) in features.iter().enumerate() {
+        if count <= usize::from(*feature) {
+            return Err(Refusal::UnknownRuleFeature);
         }
-        if named(&features[..i], feature) {
-            return 17;
+        if features[..i].contains(feature) {
+            return Err(Refusal::RepeatedRuleFeature);
         }
-        i += 1;
     }
-    0
+    Ok(())
 }
 
-// Whether a feature is one of a list.
-fn named(list: &[u16], feature: u16) -> bool
-    ensures { result ≡ member feature list.now }
+fn rows_fault(sizes: &[u8], features: &[u16], rows: &[u16]) -> Result<(), Refusal>
+    requires { 0 < length features.now }
+    ensures { (count : ℕ) → length features.now * count ≡ length rows.now
+        → refusal_number result ≡ rows_fault sizes.now features.now count rows.now }
 {
-    let mut i = 0;
-    while i < list.len() {
-        if feature == list[i] {
-            return true;
+    for row in rows.chunks_exact(features.len()) {
+        if !row_fits(sizes, features, row) {
+            return Err(Refusal::RowOptionTooHigh);
         }
-        i += 1;
     }
-    false
-}
-
-fn rows_fault(sizes: &[u8], features: &[u16], rows: &[u16], count: usize) -> u8
-    requires { length features.now * count ≡ length rows.now }
-    ensures { result ≡ rows_fault sizes.now features.now count rows.now }
-{
-    let mut left = count;
-    let mut place = 0;
-    while 0 < left {
-        let end = place + features.len();
-        if !row_fits(sizes, features, &rows[place..end]) {
-            return 18;
-        }
-        place = end;
-        left -= 1;
-    }
-    0
+    Ok(())
 }
 
 fn row_fits(sizes: &[u8], features: &[u16], row: &[u16]) -> bool
     requires { length row.now ≡ length features.now }
     ensures { result ≡ row_fits sizes.now features.now row.now }
 {
-    let mut i = 0;
-    while i < features.len() {
-        if size_at(sizes, wide(features[i])) <= wide(row[i]) {
-            return false;
-        }
-        i += 1;
-    }
-    true
+    features.iter().zip(row).all(|(feature, option)| {
+        usize::from(*option) < size_at(sizes, usize::from(*feature))
+    })
 }

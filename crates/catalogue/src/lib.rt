@@ -1,5 +1,5 @@
-// Sizes and a rule list as lent numbers, any content: `fault` reads both from the front and answers the number of the fault
-// met first, 0 for none.
+// Sizes and a rule list as lent numbers, any content: `fault` reads both from the front and refuses with the fault met
+// first.
 #![tactic(auto)]
 
 mod faults;

@@ -5,9 +5,11 @@ use Prim.Native.Nat.{ℕ, zero, suc}
 use mathlib.Core.Path.{◌≡◌, refl, sym, ◌∙◌, ap}
 use mathlib.Core.Bool.{not}
 use mathlib.Core.List.{List, [], ◌∷◌, ◌++◌}
+use Rattle.numbers.specs.declared.refusal.Refusal.{Refusal}
+use Rattle.numbers.specs.Refusal.{number_of}
 use Rattle.builds.specs.Catalogue.{Catalogue}
 use Rattle.builds.specs.Checks.{when, or_else, first}
-use Rattle.builds.proofs.ListWalks.{first_row}
+use Rattle.catalogue.proofs.Walks.{refused_first}
 use Rattle.runs.specs.declared.Asking.{Asking}
 use Rattle.runs.specs.Room.{Room}
 use Rattle.runs.specs.DeskFits.{desk_fits}
@@ -25,14 +27,13 @@ first_append (suc number ∷ rows) more = refl
 pub record Adds (longer shorter : ℕ) (more : List ℕ) : Type 0 where
   pub joined : longer ≡ or_else shorter (first more)
 
--- the code's number for the shorter call, used for the longer one
-module _ {longer shorter number : ℕ} {more : List ℕ} (adds : Adds longer shorter more) (found : number ≡ shorter) where
-  pub refused_already : (number ≡ 0 → ⊥) → number ≡ longer
-  refused_already some =
-      found ∙ sym (adds.joined ∙ first_row shorter (first more) (λ (none : shorter ≡ 0). some (found ∙ none)))
+-- what the code answers to the shorter call, used for the longer one
+module _ {longer shorter : ℕ} {more : List ℕ} (adds : Adds longer shorter more) where
+  pub refused_already : (refusal : Refusal) → number_of refusal ≡ shorter → number_of refusal ≡ longer
+  refused_already refusal found = refused_first refusal (first more) found ∙ sym adds.joined
 
-  pub decided_by : {decision : ℕ} → number ≡ 0 → decision ≡ first more → decision ≡ longer
-  decided_by none decision-is = decision-is ∙ sym (adds.joined ∙ ap (λ (n : ℕ). or_else n (first more)) (sym found ∙ none))
+  pub decided_by : {decision : ℕ} → 0 ≡ shorter → decision ≡ first more → decision ≡ longer
+  decided_by none decision-is = decision-is ∙ sym (adds.joined ∙ ap (λ (n : ℕ). or_else n (first more)) (sym none))
 
 module _ (catalogue : Catalogue) (room : Room) where
   abbrev turns_adds : List ℕ

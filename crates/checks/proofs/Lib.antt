@@ -1,3 +1,3 @@
 -- The table's rows, walked from the front, and how a longer call's number is made of a shorter one's.
-pub mod Rows
 pub mod Adds
+pub mod Listed

@@ -1,6 +1,6 @@
-// The table of refusal numbers, walked in its order.
+// The table of refusals, walked in its order.
 #![tactic(auto)]
 
 mod table;
 
-pub use table::{number, open_number, turns_number};
+pub use table::{check_asking, check_open, check_turns};

@@ -1,8 +1,8 @@
-// The table of refusal numbers, in its order. Of the board the checks ask the length alone.
-ghost use Rattle.std.specs.Prelude.{◌≡◌, List, ℕ, length};
+// The table of refusals, in its order. Of the board the checks ask the length alone.
+ghost use Rattle.std.specs.Prelude.{◌≡◌, List, ℕ, length, map};
+ghost use Rattle.numbers.specs.Refusal.{number_of, refusal_number};
 ghost use Rattle.builds.specs.Catalogue.{catalogue_of};
 ghost use Rattle.builds.specs.Checks.{first};
-ghost use Rattle.builds.specs.Lists.{member};
 ghost use Rattle.builds.specs.Fault.{fault_of};
 ghost use Rattle.checks.specs.Inner.Refuses.{Refuses};
 ghost use Rattle.runs.specs.Call.{asks, turns};
@@ -11,77 +11,95 @@ ghost use Rattle.runs.specs.RefusalTable.{open_refusal, refusal, row, seat_rows,
 ghost use Rattle.runs.specs.Room.{room_of};
 
 use look::{has_choice, is_at_work, is_closed, is_left};
+use numbers::Refusal;
+use numbers::Refusal::{
+    FeatureHasChoice, FeatureHasNoChoice, NoSuchFeature, NoSuchOption, OptionNotLeft, SeatAtWork,
+    SeatClosed, SeatOpen,
+};
 use runs::{Asking, Desk, Reading};
 use search::Seat;
 
 // The rows from 31 on that each call lists.
-const ENTER: [u8; 1] = [32];
+const ENTER: [Refusal; 1] = [SeatOpen];
 
-const LEAVE: [u8; 1] = [31];
+const LEAVE: [Refusal; 1] = [SeatClosed];
 
-const CHOOSE: [u8; 6] = [31, 33, 34, 35, 36, 37];
+const CHOOSE: [Refusal; 6] = [
+    SeatClosed,
+    SeatAtWork,
+    NoSuchFeature,
+    NoSuchOption,
+    FeatureHasChoice,
+    OptionNotLeft,
+];
 
-const RELAX: [u8; 4] = [31, 33, 34, 38];
+const RELAX: [Refusal; 4] = [SeatClosed, SeatAtWork, NoSuchFeature, FeatureHasNoChoice];
 
-const OPTIONS: [u8; 3] = [31, 33, 34];
+const OPTIONS: [Refusal; 3] = [SeatClosed, SeatAtWork, NoSuchFeature];
 
-const ALTERNATIVES: [u8; 4] = [31, 33, 34, 38];
+const ALTERNATIVES: [Refusal; 4] = [SeatClosed, SeatAtWork, NoSuchFeature, FeatureHasNoChoice];
 
-const EXAMPLE: [u8; 5] = [31, 33, 34, 35, 37];
+const EXAMPLE: [Refusal; 5] = [
+    SeatClosed,
+    SeatAtWork,
+    NoSuchFeature,
+    NoSuchOption,
+    OptionNotLeft,
+];
 
-const RAN_INTO: [u8; 1] = [31];
+const RAN_INTO: [Refusal; 1] = [SeatClosed];
 
 // 1 and 10 to 18: what open checks.
-pub fn open_number(board_length: usize, sizes: &[u8], rules: &[u16]) -> u8
+pub fn check_open(board_length: usize, sizes: &[u8], rules: &[u16]) -> Result<(), Refusal>
     ensures { (board : List ℕ) → length board ≡ board_length
-        → result ≡ open_refusal (catalogue_of sizes.now rules.now) board }
+        → refusal_number result ≡ open_refusal (catalogue_of sizes.now rules.now) board }
 {
     if board_length != 32768 {
-        return 1;
+        return Err(Refusal::WrongBoardLength);
     }
     catalogue::fault(sizes, rules)
 }
 
 // 1 to 20: what every other call checks first, and all that turns checks.
-pub fn turns_number(desk: Desk, board_length: usize, sizes: &[u8], rules: &[u16]) -> u8
+pub fn check_turns(
+    desk: Desk,
+    board_length: usize,
+    sizes: &[u8],
+    rules: &[u16],
+) -> Result<(), Refusal>
     ensures { (board : List ℕ) → length board ≡ board_length → (w : ℕ)
-        → result ≡ refusal (catalogue_of sizes.now rules.now) (turns w) (room_of desk board) }
+        → refusal_number result ≡ refusal (catalogue_of sizes.now rules.now) (turns w) (room_of desk board) }
 {
-    let number = open_number(board_length, sizes, rules);
-    if number != 0 {
-        return number;
-    }
+    check_open(board_length, sizes, rules)?;
     if desk_fits(desk, sizes, rules) {
-        return 0;
+        Ok(())
+    } else {
+        Err(Refusal::DeskDoesNotFit)
     }
-    20
 }
 
-// The number of an asking: 1 to 20, then 30, then the rows that it lists.
-pub fn number(
+// The checks of an asking: 1 to 20, then 30, then the rows that it lists.
+pub fn check_asking(
     asking: Asking,
     desk: Desk,
     board_length: usize,
     sizes: &[u8],
     rules: &[u16],
     c: usize,
-) -> u8
-    ensures { Refuses sizes.now rules.now desk board_length (asks c asking) result }
+) -> Result<(), Refusal>
+    ensures { Refuses sizes.now rules.now desk board_length (asks c asking) (refusal_number result) }
 {
-    let number = turns_number(desk, board_length, sizes, rules);
-    if number != 0 {
-        return number;
-    }
+    check_turns(desk, board_length, sizes, rules)?;
     if 7 < c {
-        return 30;
+        return Err(Refusal::NoSuchSeat);
     }
     let seats = desk.seats;
     asked(asking, seats[c], sizes)
 }
 
 // The rows that the call lists, of the feature and the option that it names.
-fn asked(asking: Asking, seat: Seat, sizes: &[u8]) -> u8
-    ensures { result ≡ first (asked_rows sizes.now seat asking) }
+fn asked(asking: Asking, seat: Seat, sizes: &[u8]) -> Result<(), Refusal>
+    ensures { refusal_number result ≡ first (asked_rows sizes.now seat asking) }
 {
     match asking {
         Asking::Enter => walked(&ENTER, seat, sizes, 0, 0),
@@ -98,64 +116,30 @@ fn asked(asking: Asking, seat: Seat, sizes: &[u8]) -> u8
 }
 
 // The table from row 31 on, for the rows that are listed.
-fn walked(listed: &[u8], seat: Seat, sizes: &[u8], i: usize, a: usize) -> u8
-    ensures { result ≡ first (seat_rows listed.now sizes.now seat i a) }
+fn walked(listed: &[Refusal], seat: Seat, sizes: &[u8], i: usize, a: usize) -> Result<(), Refusal>
+    ensures { refusal_number result ≡ first (seat_rows (map number_of listed.now) sizes.now seat i a) }
 {
     let closed = is_closed(seat);
     let chosen = has_choice(seat, i);
-    let rows = [
-        row(listed, 31, closed),
-        row(listed, 32, !closed),
-        row(listed, 33, is_at_work(seat)),
-        row(listed, 34, sizes.len() <= i),
-        row(listed, 35, numbers::size_at(sizes, i) <= a),
-        row(listed, 36, chosen),
-        row(listed, 37, !is_left(seat, i, a)),
-        row(listed, 38, !chosen),
-    ];
-    first_of(&rows)
+    row(listed, SeatClosed, closed)?;
+    row(listed, SeatOpen, !closed)?;
+    row(listed, SeatAtWork, is_at_work(seat))?;
+    row(listed, NoSuchFeature, sizes.len() <= i)?;
+    row(listed, NoSuchOption, numbers::size_at(sizes, i) <= a)?;
+    row(listed, FeatureHasChoice, chosen)?;
+    row(listed, OptionNotLeft, !is_left(seat, i, a))?;
+    row(listed, FeatureHasNoChoice, !chosen)
 }
 
-// A row gives its number where it is listed and its condition holds.
-fn row(listed: &[u8], number: u8, condition: bool) -> u8
-    ensures { result ≡ row listed.now number condition }
+// A row refuses where it is listed and its condition holds.
+fn row(listed: &[Refusal], refusal: Refusal, condition: bool) -> Result<(), Refusal>
+    ensures { refusal_number result ≡ row (map number_of listed.now) (number_of refusal) condition }
 {
-    if !lists(listed, number) {
-        return 0;
+    if condition && listed.contains(&refusal) {
+        Err(refusal)
+    } else {
+        Ok(())
     }
-    if condition {
-        return number;
-    }
-    0
-}
-
-// Whether a row is listed.
-fn lists(listed: &[u8], number: u8) -> bool
-    ensures { result ≡ member number listed.now }
-{
-    let mut i = 0;
-    while i < listed.len() {
-        if number == listed[i] {
-            return true;
-        }
-        i += 1;
-    }
-    false
-}
-
-// The first row that gives a number counts.
-fn first_of(rows: &[u8]) -> u8
-    ensures { result ≡ first rows.now }
-{
-    let mut i = 0;
-    while i < rows.len() {
-        let number = rows[i];
-        if number != 0 {
-            return number;
-        }
-        i += 1;
-    }
-    0
 }
 
 // Number 20: the desk fits a catalogue without a fault.
@@ -163,17 +147,6 @@ fn desk_fits(desk: Desk, sizes: &[u8], rules: &[u16]) -> bool
     requires { fault_of (catalogue_of sizes.now rules.now) ≡ 0 }
     ensures { result ≡ desk_fits (catalogue_of sizes.now rules.now) desk }
 {
-    if 7 < desk.next {
-        return false;
-    }
     let seats = desk.seats;
-    let mut c = 0usize;
-    while c < 8 {
-        let seat = seats[c];
-        if !fit::seat_fits(seat, sizes, rules) {
-            return false;
-        }
-        c += 1;
-    }
-    true
+    desk.next <= 7 && seats.iter().all(|seat| fit::seat_fits(*seat, sizes, rules))
 }

@@ -16,10 +16,13 @@ pub fn open(board: &mut [u8], sizes: &[u8], rules: &[u16]) -> Changed
     ensures { ChangesTo
         (opening (catalogue_of sizes.now rules.now) board.old) result board.new }
 {
-    let number = checks::open_number(board.len(), sizes, rules);
-    if number == 0 {
-        seat::empty(board);
-    }
+    let number = match checks::check_open(board.len(), sizes, rules) {
+        Ok(()) => {
+            seat::empty(board);
+            0
+        }
+        Err(refusal) => refusal.number(),
+    };
     Changed {
         number,
         desk: fresh(),
@@ -95,17 +98,21 @@ fn ask(
         (performed sizes.now rules.now desk board.old (asks c asking))
         result board.new }
 {
-    let number = checks::number(asking, desk, board.len(), sizes, rules, c);
-    if number != 0 {
-        return Changed { number, desk };
-    }
-    let from = c * 4096;
-    let to = from + 4096;
-    let seats = desk.seats;
-    let seat = seat::clinic_after(asking, seats[c], &mut board[from..to], sizes);
-    Changed {
-        number: 0,
-        desk: with_seat(desk, c, seat),
+    match checks::check_asking(asking, desk, board.len(), sizes, rules, c) {
+        Ok(()) => {
+            let from = c * 4096;
+            let to = from + 4096;
+            let seats = desk.seats;
+            let seat = seat::clinic_after(asking, seats[c], &mut board[from..to], sizes);
+            Changed {
+                number: 0,
+                desk: with_seat(desk, c, seat),
+            }
+        }
+        Err(refusal) => Changed {
+            number: refusal.number(),
+            desk,
+        },
     }
 }
 

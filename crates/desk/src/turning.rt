@@ -4,7 +4,7 @@ ghost use Rattle.runs.specs.Call.{turns};
 ghost use Rattle.runs.specs.Answers.{TurnsTo};
 ghost use Rattle.runs.specs.Perform.{performed};
 
-use checks::turns_number;
+use checks::check_turns;
 use ring::make_turns;
 use runs::{Desk, Turned};
 
@@ -14,14 +14,13 @@ pub fn turns(desk: Desk, board: &mut [u8], sizes: &[u8], rules: &[u16], w: u16) 
         (performed sizes.now rules.now desk board.old (turns w))
         result board.new }
 {
-    let number = turns_number(desk, board.len(), sizes, rules);
-    if number != 0 {
-        return Turned {
-            number,
+    match check_turns(desk, board.len(), sizes, rules) {
+        Ok(()) => make_turns(desk, board, sizes, rules, w),
+        Err(refusal) => Turned {
+            number: refusal.number(),
             made: 0,
             working: false,
             desk,
-        };
+        },
     }
-    make_turns(desk, board, sizes, rules, w)
 }

@@ -1,11 +1,12 @@
 -- Where an example stands in the board: the place handed out, and that the bytes there are those that the desk answers.
 use Prim.Native.Nat.{ℕ, zero, suc, ◌+◌, ◌*◌, ◌<◌}
 use mathlib.Core.Path.{◌≡◌, refl, sym, ◌∙◌}
-use mathlib.Core.List.{[], ◌∷◌}
+use mathlib.Core.List.{List, [], ◌∷◌}
 use native.Mathlib.Omega.{arith}
 use lib.ListN.{take, drop}
 use Rattle.builds.specs.Catalogue.{Catalogue}
 use Rattle.builds.specs.Lists.{member}
+use Rattle.runs.specs.declared.Desk.{Desk}
 use Rattle.runs.specs.declared.Asking.{Asking}
 use Rattle.runs.specs.declared.Asking.TheVariants.{Read}
 use Rattle.runs.specs.declared.Reading.TheVariants.{Example}
@@ -17,11 +18,19 @@ use Rattle.runs.proofs.AcceptedCalls.{AcceptedAsking, accepted, passed}
 use Rattle.runs.proofs.NamedBounds.{feature_bounds}
 use Rattle.runs.proofs.Performed.{perform_number, perform_accepted, perform_refused}
 use Rattle.runs.proofs.ExampleOnBoard.{example_on_board}
-use Rattle.host.specs.Door.{example_stands}
+use Rattle.host.specs.declared.records.HostDesk.{HostDesk}
+use Rattle.host.specs.Records.{desk_of}
+use Rattle.host.specs.Door.{inside, example_stands}
 
 pub stands_nowhere : (number c i a : ℕ) → (number ≡ 0 → ⊥) → record { number = number; from = 0; length = 0 } ≡ example_stands number c i a
 stands_nowhere zero c i a refused = absurd (refused refl)
 stands_nowhere (suc number) c i a refused = refl
+
+-- the desk's number, asked with the host's desk converted, is that of the call through the door
+pub number_inside : (catalogue : Catalogue) (c i a : ℕ) (given : HostDesk) (board : List ℕ) {desk : Desk} {number : ℕ} → desk ≡ desk_of given
+    → number ≡ (perform catalogue (asks c (Read (Example i a))) (record { desk = desk; board = board })).answer.number
+    → number ≡ (inside catalogue (asks c (Read (Example i a))) given board).answer.number
+number_inside catalogue c i a given board converted answered = rw (← converted) answered
 
 module _ (catalogue : Catalogue) (room : Room) (c i a : ℕ) where
   abbrev asking : Asking

@@ -2,7 +2,6 @@
 ghost use Rattle.std.specs.Prelude.{◌≡◌};
 ghost use Rattle.host.specs.Door.{desk_back};
 
-use crate::convert::host_desk_of;
 use crate::records::{HostChanged, HostDesk, HostLeft, HostRan, HostTurned};
 use desk::{Changed, Desk, Left, Ran, Turned};
 
@@ -18,22 +17,27 @@ pub fn changed_back(given: HostDesk, changed: Changed) -> HostChanged
     }
 }
 
-pub fn left_back(left: Left) -> HostLeft
-    ensures { result ≡ record { number = left.number; mask = left.mask; count = left.count } }
-{
-    HostLeft {
-        number: left.number,
-        mask: left.mask,
-        count: left.count,
+impl From<Left> for HostLeft {
+    ghost from_gives = { λ left host. host
+        ≡ record { number = left.number; mask = left.mask; count = left.count } };
+
+    fn from(left: Left) -> HostLeft {
+        HostLeft {
+            number: left.number,
+            mask: left.mask,
+            count: left.count,
+        }
     }
 }
 
-pub fn ran_back(ran: Ran) -> HostRan
-    ensures { result ≡ record { number = ran.number; rule = ran.rule } }
-{
-    HostRan {
-        number: ran.number,
-        rule: ran.rule,
+impl From<Ran> for HostRan {
+    ghost from_gives = { λ ran host. host ≡ record { number = ran.number; rule = ran.rule } };
+
+    fn from(ran: Ran) -> HostRan {
+        HostRan {
+            number: ran.number,
+            rule: ran.rule,
+        }
     }
 }
 
@@ -61,5 +65,5 @@ fn desk_back(number: u8, given: HostDesk, desk: Desk) -> HostDesk
     if number != 0 {
         return given;
     }
-    host_desk_of(desk)
+    HostDesk::from(desk)
 }

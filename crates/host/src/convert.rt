@@ -1,126 +1,93 @@
 // A host's records and the desk's own, one into the other.
-ghost use Rattle.std.specs.Prelude.{◌≡◌, map};
-ghost use Rattle.host.specs.Records.{desk_state_of, desk_seat_of, host_seat, host_seat_of, all_known, desk_of, host_desk_of};
+ghost use Rattle.std.specs.Prelude.{◌≡◌};
+ghost use Rattle.host.specs.Records.{desk_state_of, desk_seat_of, host_seat, host_seat_of, desk_of, host_desk_of};
 
 use crate::records::{HostDesk, HostSeat};
 use desk::Desk;
 use seat::{Place, Seat, State};
 
 // A desk in which some seat's state has no meaning fits no catalogue: its next seat is 255, which number 20 refuses.
-pub fn desk_of(given: HostDesk) -> Desk
-    ensures { result ≡ desk_of given }
-{
-    let given_seats = given.seats;
-    let seats = desk_seats_of(given_seats);
-    if all_known(given_seats) {
-        return Desk {
-            seats,
-            next: given.next,
-        };
-    }
-    Desk { seats, next: 255 }
-}
+impl From<HostDesk> for Desk {
+    ghost from_gives = { λ given desk. desk ≡ desk_of given };
 
-pub fn host_desk_of(desk: Desk) -> HostDesk
-    ensures { result ≡ host_desk_of desk }
-{
-    let seats = desk.seats;
-    HostDesk {
-        seats: host_seats_of(seats),
-        next: desk.next,
-    }
-}
-
-fn desk_seats_of(given: [HostSeat; 8]) -> [Seat; 8]
-    ensures { result ≡ map desk_seat_of given }
-{
-    let closed = seat::closed();
-    let mut seats = [closed; 8];
-    let mut c = 0usize;
-    while c < 8 {
-        seats[c] = desk_seat_of(given[c]);
-        c += 1;
-    }
-    seats
-}
-
-fn host_seats_of(seats: [Seat; 8]) -> [HostSeat; 8]
-    ensures { result ≡ map host_seat_of seats }
-{
-    let closed = host_seat_of(seat::closed());
-    let mut host_seats = [closed; 8];
-    let mut c = 0usize;
-    while c < 8 {
-        host_seats[c] = host_seat_of(seats[c]);
-        c += 1;
-    }
-    host_seats
-}
-
-// Whether every seat's state number is one of the three.
-fn all_known(given: [HostSeat; 8]) -> bool
-    ensures { result ≡ all_known given }
-{
-    let mut c = 0usize;
-    while c < 8 {
-        let seat = given[c];
-        if 2 < seat.state {
-            return false;
+    fn from(given: HostDesk) -> Desk {
+        let given_seats = given.seats;
+        let all_known = given_seats.iter().all(|seat| seat.state <= 2);
+        let seats = given_seats.map(|seat| Seat::from(seat));
+        if all_known {
+            return Desk {
+                seats,
+                next: given.next,
+            };
         }
-        c += 1;
-    }
-    true
-}
-
-fn desk_seat_of(given: HostSeat) -> Seat
-    ensures { result ≡ desk_seat_of given }
-{
-    let state = desk_state_of(given);
-    let choices = given.choices;
-    let masks = given.masks;
-    let trial = given.trial;
-    let alternatives = given.alternatives;
-    Seat {
-        state,
-        choices,
-        masks,
-        trial,
-        alternatives,
-        broken: given.broken,
+        Desk { seats, next: 255 }
     }
 }
 
+impl From<Desk> for HostDesk {
+    ghost from_gives = { λ desk host. host ≡ host_desk_of desk };
+
+    fn from(desk: Desk) -> HostDesk {
+        let seats = desk.seats;
+        HostDesk {
+            seats: seats.map(|seat| HostSeat::from(seat)),
+            next: desk.next,
+        }
+    }
+}
+
+impl From<HostSeat> for Seat {
+    ghost from_gives = { λ given seat. seat ≡ desk_seat_of given };
+
+    fn from(given: HostSeat) -> Seat {
+        let state = desk_state_of(given);
+        let choices = given.choices;
+        let masks = given.masks;
+        let trial = given.trial;
+        let alternatives = given.alternatives;
+        Seat {
+            state,
+            choices,
+            masks,
+            trial,
+            alternatives,
+            broken: given.broken,
+        }
+    }
+}
+
+// A greater number than the three is read as at work.
 fn desk_state_of(given: HostSeat) -> State
     ensures { result ≡ desk_state_of given }
 {
-    if given.state == 0 {
-        return State::Closed;
+    match given.state {
+        0 => State::Closed,
+        1 => State::Ready,
+        _ => State::AtWork(Place {
+            feature: given.feature,
+            option: given.option,
+            depth: given.depth,
+            next: given.next,
+        }),
     }
-    if given.state == 1 {
-        return State::Ready;
-    }
-    State::AtWork(Place {
-        feature: given.feature,
-        option: given.option,
-        depth: given.depth,
-        next: given.next,
-    })
 }
 
-fn host_seat_of(seat: Seat) -> HostSeat
-    ensures { result ≡ host_seat_of seat }
-{
-    let nowhere = Place {
-        feature: 0,
-        option: 0,
-        depth: 0,
-        next: 0,
-    };
-    let state = seat.state;
-    match state {
-        State::Closed => host_seat(0, nowhere, seat),
-        State::Ready => host_seat(1, nowhere, seat),
-        State::AtWork(place) => host_seat(2, place, seat),
+impl From<Seat> for HostSeat {
+    ghost from_gives = { λ seat host. host ≡ host_seat_of seat };
+
+    fn from(seat: Seat) -> HostSeat {
+        let nowhere = Place {
+            feature: 0,
+            option: 0,
+            depth: 0,
+            next: 0,
+        };
+        let state = seat.state;
+        match state {
+            State::Closed => host_seat(0, nowhere, seat),
+            State::Ready => host_seat(1, nowhere, seat),
+            State::AtWork(place) => host_seat(2, place, seat),
+        }
     }
 }
 

@@ -16,8 +16,8 @@ ghost use Rattle.runs.specs.Call.{asks, turns};
 ghost use Rattle.host.specs.Door.{inside, through_door, opened_door, host_changed_outcome};
 ghost use Rattle.host.specs.Door.{host_left_answer, host_ran_answer, host_turned_outcome, example_stands};
 
-use answers::{changed_back, left_back, ran_back, turned_back};
-use convert::{desk_of, host_desk_of};
+use answers::{changed_back, turned_back};
+use desk::Desk;
 pub use records::{HostChanged, HostDesk, HostExample, HostLeft, HostRan, HostSeat, HostTurned};
 
 #[unsafe(no_mangle)]
@@ -33,7 +33,7 @@ pub extern "C" fn nethazel_open_layout_2(
     let desk = opened.desk;
     HostChanged {
         number: opened.number,
-        desk: host_desk_of(desk),
+        desk: HostDesk::from(desk),
     }
 }
 
@@ -49,7 +49,7 @@ pub extern "C" fn nethazel_enter_layout_2(
         ≡ through_door (catalogue_of sizes.now rules.now) (asks c Enter)
         given board.old }
 {
-    let changed = desk::enter(desk_of(given), board, sizes, rules, c);
+    let changed = desk::enter(Desk::from(given), board, sizes, rules, c);
     changed_back(given, changed)
 }
 
@@ -65,7 +65,7 @@ pub extern "C" fn nethazel_leave_layout_2(
         ≡ through_door (catalogue_of sizes.now rules.now) (asks c Leave)
         given board.old }
 {
-    let changed = desk::leave(desk_of(given), board, sizes, rules, c);
+    let changed = desk::leave(Desk::from(given), board, sizes, rules, c);
     changed_back(given, changed)
 }
 
@@ -83,7 +83,7 @@ pub extern "C" fn nethazel_choose_layout_2(
         ≡ through_door (catalogue_of sizes.now rules.now) (asks c (Choose i a))
         given board.old }
 {
-    let changed = desk::choose(desk_of(given), board, sizes, rules, c, i, a);
+    let changed = desk::choose(Desk::from(given), board, sizes, rules, c, i, a);
     changed_back(given, changed)
 }
 
@@ -100,7 +100,7 @@ pub extern "C" fn nethazel_relax_layout_2(
         ≡ through_door (catalogue_of sizes.now rules.now) (asks c (Relax i))
         given board.old }
 {
-    let changed = desk::relax(desk_of(given), board, sizes, rules, c, i);
+    let changed = desk::relax(Desk::from(given), board, sizes, rules, c, i);
     changed_back(given, changed)
 }
 
@@ -117,7 +117,7 @@ pub extern "C" fn nethazel_options_layout_2(
         ≡ (inside (catalogue_of sizes.now rules.now) (asks c (Read (Options i)))
         given board.now).answer }
 {
-    left_back(desk::options(desk_of(given), board, sizes, rules, c, i))
+    HostLeft::from(desk::options(Desk::from(given), board, sizes, rules, c, i))
 }
 
 #[unsafe(no_mangle)]
@@ -133,7 +133,7 @@ pub extern "C" fn nethazel_alternatives_layout_2(
         ≡ (inside (catalogue_of sizes.now rules.now) (asks c (Read (Alternatives i)))
         given board.now).answer }
 {
-    left_back(desk::alternatives(desk_of(given), board, sizes, rules, c, i))
+    HostLeft::from(desk::alternatives(Desk::from(given), board, sizes, rules, c, i))
 }
 
 // Both of the desk's calls for an example in one: the number, and where the bytes stand that the desk hands out.
@@ -154,7 +154,7 @@ pub extern "C" fn nethazel_example_layout_2(
         ≡ (inside (catalogue_of sizes.now rules.now) (asks c (Read (Example i a)))
         given board.now).answer.bytes }
 {
-    let number = desk::example_number(desk_of(given), board, sizes, rules, c, i, a);
+    let number = desk::example_number(Desk::from(given), board, sizes, rules, c, i, a);
     if number != 0 {
         return HostExample {
             number,
@@ -181,7 +181,7 @@ pub extern "C" fn nethazel_ran_into_layout_2(
         ≡ (inside (catalogue_of sizes.now rules.now) (asks c (Read RanInto))
         given board.now).answer }
 {
-    ran_back(desk::ran_into(desk_of(given), board, sizes, rules, c))
+    HostRan::from(desk::ran_into(Desk::from(given), board, sizes, rules, c))
 }
 
 #[unsafe(no_mangle)]
@@ -195,6 +195,6 @@ pub extern "C" fn nethazel_turns_layout_2(
     ensures { host_turned_outcome result board.new
         ≡ through_door (catalogue_of sizes.now rules.now) (turns w) given board.old }
 {
-    let turned = desk::turns(desk_of(given), board, sizes, rules, w);
+    let turned = desk::turns(Desk::from(given), board, sizes, rules, w);
     turned_back(given, turned)
 }

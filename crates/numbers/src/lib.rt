@@ -1,7 +1,11 @@
-// Single numbers of the lent slices, widened, with their ranges.
+// Single numbers of the lent slices, widened, with their ranges; and why a call is refused, with the number of each reason.
 #![tactic(auto)]
 
+mod refusal;
+
 ghost use Rattle.std.specs.Prelude.{◌≡◌, ◌<◌, get_or};
+
+pub use refusal::Refusal;
 
 pub fn wide(x: u16) -> usize
     ensures { (result ≡ x) × (result < 65536) }

@@ -1,7 +1,10 @@
 // The calls that read a seat: the rule that its search ran into of any open one, all else of a ready one.
 #![tactic(auto)]
 
-ghost use Rattle.std.specs.Prelude.{◌≡◌};
+ghost use Rattle.std.specs.Prelude.{◌≡◌, MatchResult};
+ghost use Rattle.numbers.specs.Refusal.{number_of};
+ghost use Rattle.builds.specs.Catalogue.{catalogue_of};
+ghost use Rattle.reading.specs.Inner.SeatRead.{SeatRead};
 ghost use Rattle.runs.specs.declared.Asking.TheVariants.{Read};
 ghost use Rattle.runs.specs.declared.Reading.TheVariants.{Options, Alternatives, Example, RanInto};
 ghost use Rattle.runs.specs.Call.{asks, refused};
@@ -9,7 +12,9 @@ ghost use Rattle.runs.specs.Answers.{left_answer, ReadsAs, RanAs, BytesAre, Begi
 ghost use Rattle.runs.specs.Perform.{mask_answer, performed};
 ghost use Rattle.runs.specs.Room.{room_of};
 
+use numbers::Refusal;
 use runs::{Asking, Desk, Left, Ran, Reading};
+use search::Seat;
 
 // The options left of one feature, and how many they are.
 pub fn options(desk: Desk, board: &[u8], sizes: &[u8], rules: &[u16], c: usize, i: usize) -> Left
@@ -17,13 +22,9 @@ pub fn options(desk: Desk, board: &[u8], sizes: &[u8], rules: &[u16], c: usize, 
         (performed sizes.now rules.now desk board.now (asks c (Read (Options i))))
         (room_of desk board.now) result }
 {
-    let asking = Asking::Read(Reading::Options { feature: i });
-    let number = checks::number(asking, desk, board.len(), sizes, rules, c);
-    if number != 0 {
-        return refused(number);
-    }
-    let seats = desk.seats;
-    counted(look::mask_of(seats[c], i))
+    let reading = Reading::Options { feature: i };
+    let read = seat_read(reading, desk, board, sizes, rules, c);
+    counted(read.map(|seat| look::mask_of(seat, i)))
 }
 
 // What could replace the choice of one feature, and how many options these are.
@@ -39,33 +40,28 @@ pub fn alternatives(
         (performed sizes.now rules.now desk board.now (asks c (Read (Alternatives i))))
         (room_of desk board.now) result }
 {
-    let asking = Asking::Read(Reading::Alternatives { feature: i });
-    let number = checks::number(asking, desk, board.len(), sizes, rules, c);
-    if number != 0 {
-        return refused(number);
-    }
-    let seats = desk.seats;
-    counted(look::alternatives_of(seats[c], i))
+    let reading = Reading::Alternatives { feature: i };
+    let read = seat_read(reading, desk, board, sizes, rules, c);
+    counted(read.map(|seat| look::alternatives_of(seat, i)))
 }
 
-fn refused(number: u8) -> Left
-    ensures { left_answer result ≡ refused number }
+// A mask that is read, and how many bits are set in it; refused, the number alone.
+fn counted(read: Result<u16, Refusal>) -> Left
+    ensures { MatchResult read
+        (λ mask. left_answer result ≡ mask_answer mask)
+        (λ refusal. left_answer result ≡ refused (number_of refusal)) }
 {
-    Left {
-        number,
-        mask: 0,
-        count: 0,
-    }
-}
-
-// A mask that is read, and how many bits are set in it.
-fn counted(mask: u16) -> Left
-    ensures { left_answer result ≡ mask_answer mask }
-{
-    Left {
-        number: 0,
-        mask,
-        count: u16::count_ones(mask),
+    match read {
+        Ok(mask) => Left {
+            number: 0,
+            mask,
+            count: mask.count_ones(),
+        },
+        Err(refusal) => Left {
+            number: refusal.number(),
+            mask: 0,
+            count: 0,
+        },
     }
 }
 
@@ -75,16 +71,15 @@ pub fn ran_into(desk: Desk, board: &[u8], sizes: &[u8], rules: &[u16], c: usize)
         (performed sizes.now rules.now desk board.now (asks c (Read RanInto)))
         (room_of desk board.now) result }
 {
-    let asking = Asking::Read(Reading::RanInto);
-    let number = checks::number(asking, desk, board.len(), sizes, rules, c);
-    if number != 0 {
-        return Ran { number, rule: 0 };
-    }
-    let seats = desk.seats;
-    let seat = seats[c];
-    Ran {
-        number: 0,
-        rule: seat.broken,
+    match seat_read(Reading::RanInto, desk, board, sizes, rules, c) {
+        Ok(seat) => Ran {
+            number: 0,
+            rule: seat.broken,
+        },
+        Err(refusal) => Ran {
+            number: refusal.number(),
+            rule: 0,
+        },
     }
 }
 
@@ -105,8 +100,11 @@ pub fn example<'a>(
         (performed sizes.now rules.now desk board.now (asks c (Read (Example i a))))
         board.entry.ref_ptr c i a result.ref_ptr }
 {
-    let number = example_number(desk, board, sizes, rules, c, i, a);
-    if number != 0 {
+    let reading = Reading::Example {
+        feature: i,
+        option: a,
+    };
+    if seat_read(reading, desk, board, sizes, rules, c).is_err() {
         return &board[..0];
     }
     let from = c * 4096 + i * 256 + a * 16;
@@ -127,9 +125,28 @@ pub fn example_number(
     ensures { NumberIs
         (performed sizes.now rules.now desk board.now (asks c (Read (Example i a)))) result }
 {
-    let asking = Asking::Read(Reading::Example {
+    let reading = Reading::Example {
         feature: i,
         option: a,
-    });
-    checks::number(asking, desk, board.len(), sizes, rules, c)
+    };
+    match seat_read(reading, desk, board, sizes, rules, c) {
+        Ok(_) => 0,
+        Err(refusal) => refusal.number(),
+    }
+}
+
+// The seat that is read of, where the call is not refused.
+fn seat_read(
+    reading: Reading,
+    desk: Desk,
+    board: &[u8],
+    sizes: &[u8],
+    rules: &[u16],
+    c: usize,
+) -> Result<Seat, Refusal>
+    ensures { SeatRead (catalogue_of sizes.now rules.now) c reading (room_of desk board.now) result }
+{
+    checks::check_asking(Asking::Read(reading), desk, board.len(), sizes, rules, c)?;
+    let seats = desk.seats;
+    Ok(seats[c])
 }

@@ -15,8 +15,8 @@ pub fn catalogue(console: &Console, sizes: &[u8], rules: &[u16]) {
     text(console, b"\noptions ");
     println!(console; "{}", Columns(sizes));
     first_rules(console, found);
-    if let Some(number) = found.fault {
-        fault(console, number, found);
+    if let Some(refusal) = found.fault {
+        fault(console, refusal, found);
         text(console, b"\n");
     }
 }

@@ -2,6 +2,7 @@
 // whether there is none.
 use crate::met::{Met, feature_met, first_rule, meet, row_met};
 use lines::{Console, counted, text};
+use numbers::Refusal;
 use shown::{Lengths, words_of_room};
 
 // The sizes are looked at alone, as if there were no rule.
@@ -24,16 +25,17 @@ fn count_of_numbers(console: &Console, n: usize) {
 fn made_or_fault(console: &Console, found: Met, count: usize, what: &[u8]) -> bool {
     match found.fault {
         None => counted(console, count as u64, what),
-        Some(number) => fault(console, number, found),
+        Some(refusal) => fault(console, refusal, found),
     }
     text(console, b"\n");
     found.fault.is_none()
 }
 
 // A fault, where it was met, and its words.
-pub fn fault(console: &Console, number: u8, found: Met) {
+pub fn fault(console: &Console, refusal: Refusal, found: Met) {
+    let number = refusal.number();
     print!(console; "fault {number}");
-    place(console, number, found);
+    place(console, refusal, found);
     text(console, b": ");
     words_of_room(
         console,
@@ -46,15 +48,18 @@ pub fn fault(console: &Console, number: u8, found: Met) {
     );
 }
 
-fn place(console: &Console, number: u8, found: Met) {
+fn place(console: &Console, refusal: Refusal, found: Met) {
     let rule = found.whole;
-    match number {
-        11 => {
+    match refusal {
+        Refusal::SizeOutOfRange => {
             let feature = feature_met(found.sizes);
             print!(console; " in feature {feature}");
         }
-        14..=17 => print!(console; " in rule {rule}"),
-        18 => {
+        Refusal::RuleListEndsEarly
+        | Refusal::ArityOutOfRange
+        | Refusal::UnknownRuleFeature
+        | Refusal::RepeatedRuleFeature => print!(console; " in rule {rule}"),
+        Refusal::RowOptionTooHigh => {
             let (broken, _) = first_rule(found.rest);
             let row = row_met(found.sizes, broken);
             print!(console; " in rule {rule}, row {row}");

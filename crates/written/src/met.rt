@@ -3,6 +3,7 @@
 ghost use Rattle.std.specs.Prelude.{◌<◌};
 
 use lines::at;
+use numbers::Refusal;
 
 // A catalogue, and its fault if it has one; how many whole rules stand before that, all where there is none; what stands
 // after them.
@@ -10,7 +11,7 @@ use lines::at;
 pub struct Met<'a> {
     pub sizes: &'a [u8],
     pub rules: &'a [u16],
-    pub fault: Option<u8>,
+    pub fault: Option<Refusal>,
     pub whole: usize,
     pub rest: &'a [u16],
 }
@@ -54,8 +55,8 @@ fn width(rule: &[u16]) -> usize {
 
 // Of a list that is too long no rule is read.
 pub fn meet<'a>(sizes: &'a [u8], rules: &'a [u16]) -> Met<'a> {
-    let fault = fault_of(sizes, rules);
-    let most = if fault == Some(12) { 0 } else { 64 };
+    let fault = catalogue::fault(sizes, rules).err();
+    let most = if fault == Some(Refusal::RuleListTooLong) { 0 } else { 64 };
     let (whole, rest) = walk(sizes, rules, most);
     Met {
         sizes,
@@ -63,13 +64,6 @@ pub fn meet<'a>(sizes: &'a [u8], rules: &'a [u16]) -> Met<'a> {
         fault,
         whole,
         rest,
-    }
-}
-
-fn fault_of(sizes: &[u8], rules: &[u16]) -> Option<u8> {
-    match catalogue::fault(sizes, rules) {
-        0 => None,
-        fault => Some(fault),
     }
 }
 
@@ -89,7 +83,7 @@ fn walk<'a>(sizes: &[u8], list: &'a [u16], most: usize) -> (usize, &'a [u16]) {
 
 // Whether there is a rule, whole and without a fault.
 fn stands(sizes: &[u8], rule: &[u16]) -> bool {
-    !rule.is_empty() && fault_of(sizes, rule).is_none()
+    !rule.is_empty() && catalogue::fault(sizes, rule).is_ok()
 }
 
 // The first feature whose size is 0 or above 16.

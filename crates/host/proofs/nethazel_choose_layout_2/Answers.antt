@@ -5,4 +5,4 @@ use Rattle.host.proofs.nethazel_choose_layout_2.Goals as goal
 pub returns : goal.returns
 returns c =
     rw c.changed_back.ensures
-    (through _ _ _ _ _ c.desk_of.ensures _ c.choose-changed.ensures)
+    (through _ _ _ _ _ c.from.ensures _ c.choose-changed.ensures)

@@ -5,4 +5,4 @@ use Rattle.host.proofs.nethazel_open_layout_2.Goals as goal
 
 pub returns : goal.returns
 unfolding opened_door
-returns c = rw c.host_desk_of.ensures (ap outside c.open-opened.ensures)
+returns c = rw c.from.ensures (ap outside c.open-opened.ensures)

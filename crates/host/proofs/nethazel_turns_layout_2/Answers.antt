@@ -5,4 +5,4 @@ use Rattle.host.proofs.nethazel_turns_layout_2.Goals as goal
 pub returns : goal.returns
 returns c =
     rw c.turned_back.ensures
-    (through _ _ _ _ _ c.desk_of.ensures _ c.turns-turned.ensures)
+    (through _ _ _ _ _ c.from.ensures _ c.turns-turned.ensures)

@@ -4,5 +4,5 @@ use native.Mathlib.Omega.{arith}
 use Rattle.search.proofs.Bits.{bit_count}
 use Rattle.reading.proofs.counted.Goals as goal
 
-pub returns : goal.returns
-returns c = rw (bit_count c.args.mask (omega arith)) refl
+pub returns-in-Ok : goal.returns-in-Ok
+returns-in-Ok c = rw (c.in-Ok.is, bit_count c.in-Ok.mask (omega arith)) refl

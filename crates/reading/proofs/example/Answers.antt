@@ -13,11 +13,12 @@ use Rattle.runs.specs.Call.{asks}
 use Rattle.runs.specs.Answers.{example_begins}
 use Rattle.runs.specs.RefusalTable.{refusal}
 use Rattle.runs.specs.Perform.{Outcome, done}
-use Rattle.runs.proofs.Performed.{perform_number, perform_accepted}
+use Rattle.runs.proofs.Performed.{perform_accepted}
 use Rattle.runs.proofs.AcceptedCalls.{AcceptedAsking, accepted, passed}
 use Rattle.runs.proofs.OneSeat.{refused_call}
 use Rattle.runs.proofs.NamedBounds.{feature_bounds}
 use Rattle.runs.proofs.ExampleOnBoard.{example_on_board}
+use Rattle.reading.proofs.ReadSeat.{not_refused, is_refused}
 use Rattle.reading.proofs.example.Goals as goal
 
 begins_nowhere : (board : ℕ × ℕ) (number c i a : ℕ) → (number ≡ 0 → ⊥) → board ≡ example_begins board number c i a
@@ -37,60 +38,55 @@ module _ (sizes list board : List ℕ) (desk : Desk) (c i a : ℕ)
       let b = feature_bounds {i = i} call_passed.checks.faultless (p.feature_below refl) in
       (call_passed.seat_below, b.feature_below_16, omega (arith, p.option_below refl, b.size_at_most_16))
 
-pub returns-then-number-ne0 : goal.returns-then-number-ne0
-returns-then-number-ne0 c =
-    let same = refused_call _ _ _ _ (c.example_number-number.ensures ∙ perform_number _ _ _) c.if-number-ne0.true in record {
+pub returns-then-is_err : goal.returns-then-is_err
+returns-then-is_err c =
+    let some = is_refused _ c.args.c _ _ c.seat_read.result c.seat_read.ensures (sym c.is_err.ensures.value ∙ c.if-is_err.true) in
+    let same = refused_call _ _ _ _ refl some in record {
       bytes = ap (λ (outcome : Outcome). outcome.answer.bytes) same;
-      place = begins_nowhere _ _ _ _ _ c.if-number-ne0.true
+      place = begins_nowhere _ _ _ _ _ some
           ∙ ap (λ (outcome : Outcome). example_begins c.args.board.ref_ptr outcome.answer.number c.args.c c.args.i c.args.a) same;
     }
 
-pub overflow_mul-from : goal.overflow_mul-from
-overflow_mul-from c =
-    let fine = sym (perform_number _ _ _) ∙ sym c.example_number-number.ensures ∙ c.if-number-ne0.false in
-    let b = bounds c.args.sizes.now c.args.rules.now c.args.board.now c.args.desk c.args.c c.args.i c.args.a fine in
-    omega arith
-
 pub overflow_mul-from-2 : goal.overflow_mul-from-2
 overflow_mul-from-2 c =
-    let fine = sym (perform_number _ _ _) ∙ sym c.example_number-number.ensures ∙ c.if-number-ne0.false in
+    let fine = not_refused _ c.args.c _ _ c.seat_read.result c.seat_read.ensures (sym c.is_err.ensures.value ∙ c.if-is_err.false) in
     let b = bounds c.args.sizes.now c.args.rules.now c.args.board.now c.args.desk c.args.c c.args.i c.args.a fine in
     omega arith
 
 pub overflow_add-from : goal.overflow_add-from
 overflow_add-from c =
-    let fine = sym (perform_number _ _ _) ∙ sym c.example_number-number.ensures ∙ c.if-number-ne0.false in
+    let fine = not_refused _ c.args.c _ _ c.seat_read.result c.seat_read.ensures (sym c.is_err.ensures.value ∙ c.if-is_err.false) in
     let b = bounds c.args.sizes.now c.args.rules.now c.args.board.now c.args.desk c.args.c c.args.i c.args.a fine in
     omega arith
 
 pub overflow_mul-from-3 : goal.overflow_mul-from-3
 overflow_mul-from-3 c =
-    let fine = sym (perform_number _ _ _) ∙ sym c.example_number-number.ensures ∙ c.if-number-ne0.false in
+    let fine = not_refused _ c.args.c _ _ c.seat_read.result c.seat_read.ensures (sym c.is_err.ensures.value ∙ c.if-is_err.false) in
     let b = bounds c.args.sizes.now c.args.rules.now c.args.board.now c.args.desk c.args.c c.args.i c.args.a fine in
     omega arith
 
 pub overflow_add-from-2 : goal.overflow_add-from-2
 overflow_add-from-2 c =
-    let fine = sym (perform_number _ _ _) ∙ sym c.example_number-number.ensures ∙ c.if-number-ne0.false in
+    let fine = not_refused _ c.args.c _ _ c.seat_read.result c.seat_read.ensures (sym c.is_err.ensures.value ∙ c.if-is_err.false) in
     let b = bounds c.args.sizes.now c.args.rules.now c.args.board.now c.args.desk c.args.c c.args.i c.args.a fine in
     omega arith
 
 pub overflow_add-to : goal.overflow_add-to
 overflow_add-to c =
-    let fine = sym (perform_number _ _ _) ∙ sym c.example_number-number.ensures ∙ c.if-number-ne0.false in
+    let fine = not_refused _ c.args.c _ _ c.seat_read.result c.seat_read.ensures (sym c.is_err.ensures.value ∙ c.if-is_err.false) in
     let b = bounds c.args.sizes.now c.args.rules.now c.args.board.now c.args.desk c.args.c c.args.i c.args.a fine in
     omega arith
 
 pub slice_bounds-result-end-2 : goal.slice_bounds-result-end-2
 slice_bounds-result-end-2 c =
-    let fine = sym (perform_number _ _ _) ∙ sym c.example_number-number.ensures ∙ c.if-number-ne0.false in
+    let fine = not_refused _ c.args.c _ _ c.seat_read.result c.seat_read.ensures (sym c.is_err.ensures.value ∙ c.if-is_err.false) in
     let b = bounds c.args.sizes.now c.args.rules.now c.args.board.now c.args.desk c.args.c c.args.i c.args.a fine in
     omega (arith, (call_passed c.args.sizes.now c.args.rules.now c.args.board.now c.args.desk c.args.c c.args.i c.args.a fine).checks.board_length)
 
 pub returns : goal.returns
 unfolding done
 returns c =
-    let fine = sym (perform_number _ _ _) ∙ sym c.example_number-number.ensures ∙ c.if-number-ne0.false in
+    let fine = not_refused _ c.args.c _ _ c.seat_read.result c.seat_read.ensures (sym c.is_err.ensures.value ∙ c.if-is_err.false) in
     let b = bounds c.args.sizes.now c.args.rules.now c.args.board.now c.args.desk c.args.c c.args.i c.args.a fine in
     let whole = (call_passed c.args.sizes.now c.args.rules.now c.args.board.now c.args.desk c.args.c c.args.i c.args.a fine).checks.board_length in
     let from : ℕ = c.args.c * 4096 + c.args.i * 256 + c.args.a * 16 in

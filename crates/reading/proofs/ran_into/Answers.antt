@@ -1,28 +1,12 @@
 -- Refused, nothing is left to say. Accepted, the last rule broken is read from the record.
-use mathlib.Core.Path.{◌≡◌, refl, sym, ◌∙◌}
-use native.Mathlib.Omega.{arith}
-use Rattle.runs.specs.declared.Asking.TheVariants.{Read}
-use Rattle.runs.specs.declared.Reading.TheVariants.{RanInto}
-use Rattle.runs.specs.Call.{asks}
-use Rattle.runs.specs.RefusalTable.{refusal}
-use Rattle.runs.proofs.OneSeat.{refused_call}
-use Rattle.reading.proofs.ReadSeat.{seat_read, read_answer}
+use mathlib.Core.Path.{ap}
+use Rattle.search.specs.declared.Seat.{Seat}
+use Rattle.runs.specs.Perform.{rule_answer}
+use Rattle.reading.proofs.ReadSeat.{read_answer, refusal_answer}
 use Rattle.reading.proofs.ran_into.Goals as goal
 
-pub returns-then-number-ne0 : goal.returns-then-number-ne0
-returns-then-number-ne0 c = refused_call _ _ _ _ (c.number-number.ensures _ refl) c.if-number-ne0.true
+pub returns-in-Ok : goal.returns-in-Ok
+returns-in-Ok c = read_answer _ _ _ _ c.in-Ok.ensures.0 _ (ap (λ (seat : Seat). rule_answer seat.broken) c.in-Ok.ensures.1)
 
-pub offset_bounds-seats-c : goal.offset_bounds-seats-c
-offset_bounds-seats-c c =
-    let not_refused : refusal (record { sizes = c.args.sizes.now; list = c.args.rules.now }) (asks c.args.c (Read RanInto)) (record { desk = c.args.desk; board = c.args.board.now }) ≡ 0 = sym (c.number-number.ensures _ refl) ∙ c.if-number-ne0.false in
-    omega (arith, seat_read _ _ _ _ not_refused)
-
-pub bounds-seats-c : goal.bounds-seats-c
-bounds-seats-c c =
-    let not_refused : refusal (record { sizes = c.args.sizes.now; list = c.args.rules.now }) (asks c.args.c (Read RanInto)) (record { desk = c.args.desk; board = c.args.board.now }) ≡ 0 = sym (c.number-number.ensures _ refl) ∙ c.if-number-ne0.false in
-    omega (arith, seat_read _ _ _ _ not_refused)
-
-pub returns : goal.returns
-returns c =
-    let not_refused : refusal (record { sizes = c.args.sizes.now; list = c.args.rules.now }) (asks c.args.c (Read RanInto)) (record { desk = c.args.desk; board = c.args.board.now }) ≡ 0 = sym (c.number-number.ensures _ refl) ∙ c.if-number-ne0.false in
-    read_answer _ _ _ _ not_refused _ refl
+pub returns-in-Err : goal.returns-in-Err
+returns-in-Err c = rw c.number.ensures (refusal_answer _ _ _ _ c.in-Err.refusal c.in-Err.ensures)

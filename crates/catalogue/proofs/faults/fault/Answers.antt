@@ -1,13 +1,18 @@
 -- `faults::fault`: each exit is a row of the definition's table, reached with the rows above it answered 0.
 use Prim.Native.Nat.{ℕ, ◌≤◌, ◌<◌}
-use mathlib.Core.Path.{◌≡◌, sym, ◌∙◌}
+use mathlib.Core.Path.{◌≡◌, sym, ap, ◌∙◌}
 use mathlib.Core.List.{List}
 use native.Mathlib.Omega.{arith}
 use borrow.Author.Tests.{lt-ltb, le-ltb, le-leb, lt-leb}
 use lib.ListN.{length}
+use Rattle.std.proofs.lemmas.Result.{err_from_is_err_and}
+use Rattle.numbers.specs.declared.refusal.Refusal.{Refusal}
+use Rattle.numbers.specs.Refusal.{number_of}
 use Rattle.builds.specs.Fault.{fault_of, sizes_fault, rules_fault}
-use Rattle.builds.proofs.ListWalks.{first_row, last_row}
+use Rattle.builds.proofs.ListWalks.{last_row}
+use Rattle.catalogue.proofs.Walks.{is_none, is_some, refused_first}
 use Rattle.catalogue.proofs.faults.fault.Goals as goal
+use Rattle.catalogue.proofs.faults.fault.Goals.{then-is_empty-via-then-is_empty, then-is_empty-via-else-is_empty+then-sizes-gt16}
 
 module _ (sizes list : List ℕ) where
   no_feature : length sizes ≡ 0 → fault_of (record { sizes = sizes; list = list }) ≡ 10
@@ -21,9 +26,10 @@ module _ (sizes list : List ℕ) where
       rw (le-leb 1 (length sizes) low, lt-leb (length sizes) 16 high)
 
   module _ (low : 1 ≤ length sizes) (high : length sizes ≤ 16) where
-    bad_size : (sizes_fault sizes ≡ 0 → ⊥) → fault_of (record { sizes = sizes; list = list }) ≡ sizes_fault sizes
+    bad_size : (refusal : Refusal) → number_of refusal ≡ sizes_fault sizes
+        → number_of refusal ≡ fault_of (record { sizes = sizes; list = list })
     unfolding fault_of
-    bad_size some = rw (le-leb 1 (length sizes) low, le-leb (length sizes) 16 high) (first_row (sizes_fault sizes) _ some)
+    bad_size refusal same = rw (le-leb 1 (length sizes) low, le-leb (length sizes) 16 high) (refused_first refusal _ same)
 
     long_list : sizes_fault sizes ≡ 0 → 8192 < length list → fault_of (record { sizes = sizes; list = list }) ≡ 12
     unfolding fault_of
@@ -35,34 +41,32 @@ module _ (sizes list : List ℕ) where
     rules_left none fits =
         rw (le-leb 1 (length sizes) low, le-leb (length sizes) 16 high, none, le-ltb 8192 (length list) fits, last_row)
 
-pub returns-then-sizes-eq0 : goal.returns-then-sizes-eq0
-returns-then-sizes-eq0 c =
-    let start = c.args in
-    sym (no_feature start.sizes.now start.rules.now c.if-sizes-eq0.true)
+pub returns-then-is_empty : goal.returns-then-is_empty
+returns-then-is_empty c =
+    let sizes = c.args.sizes.now in
+    elim c.then-is_empty.branch [
+      | then-is_empty-via-then-is_empty w ↦ sym (no_feature sizes c.args.rules.now (ap length (is_none sizes c.is_empty.ensures w.if-is_empty.true)))
+      | then-is_empty-via-else-is_empty+then-sizes-gt16 w ↦ sym (many_features sizes c.args.rules.now w.if-sizes-gt16.true)
+    ]
 
-pub returns-then-sizes-gt16 : goal.returns-then-sizes-gt16
-returns-then-sizes-gt16 c =
-    let start = c.args in
-    sym (many_features start.sizes.now start.rules.now c.if-sizes-gt16.true)
-
-pub returns-then-of_sizes-ne0 : goal.returns-then-of_sizes-ne0
-returns-then-of_sizes-ne0 c =
-    let start = c.args in
-    let of-sizes = c.sizes_fault-of_sizes.ensures in
-    sym (bad_size start.sizes.now start.rules.now (omega arith) (omega arith) (λ none. c.if-of_sizes-ne0.true (of-sizes ∙ none)) ∙ sym of-sizes)
+pub returns-in_err-sizes_fault : goal.returns-in_err-sizes_fault
+returns-in_err-sizes_fault c =
+    let p = err_from_is_err_and c.from_residual.result c.from_residual.ensures.1 in
+    let sizes = c.args.sizes.now in
+    rw (p.1, p.2)
+    (bad_size sizes c.args.rules.now (is_some sizes c.is_empty.ensures c.if-is_empty.false) c.if-sizes-gt16.false _ c.in_err-sizes_fault.ensures)
 
 pub returns-then-rules-gt8192 : goal.returns-then-rules-gt8192
 returns-then-rules-gt8192 c =
-    let start = c.args in
+    let sizes = c.args.sizes.now in
     sym
-    (long_list start.sizes.now start.rules.now (omega arith) (omega arith) (sym c.sizes_fault-of_sizes.ensures ∙ c.if-of_sizes-ne0.false)
-    c.if-rules-gt8192.true)
+    (long_list sizes c.args.rules.now (is_some sizes c.is_empty.ensures c.if-is_empty.false) c.if-sizes-gt16.false
+    (sym c.in_ok-sizes_fault.ensures) c.if-rules-gt8192.true)
 
 pub returns : goal.returns
 returns c =
-    let start = c.args in
+    let sizes = c.args.sizes.now in
     c.rules_fault.ensures
     ∙ sym
-    (rules_left start.sizes.now start.rules.now (omega arith) (omega arith)
-    (sym c.sizes_fault-of_sizes.ensures ∙ c.if-of_sizes-ne0.false)
-    c.if-rules-gt8192.false)
+    (rules_left sizes c.args.rules.now (is_some sizes c.is_empty.ensures c.if-is_empty.false) c.if-sizes-gt16.false
+    (sym c.in_ok-sizes_fault.ensures) c.if-rules-gt8192.false)

@@ -8,6 +8,7 @@ use lib.ListN.{length, get_or, take, drop}
 use Rattle.builds.specs.Lists.{member}
 use Rattle.builds.specs.Fault.{features_fault}
 use Rattle.builds.proofs.ListWalks.{left_next, passed_next, left_none, last_row}
+use Rattle.catalogue.proofs.Walks.{any_member}
 use Rattle.catalogue.proofs.faults.features_fault.Goals as goal
 
 module _ (count : ℕ) (fs : List ℕ) (i : ℕ) where
@@ -29,28 +30,19 @@ module _ (count : ℕ) (fs : List ℕ) (i : ℕ) where
   unfolding features_fault
   ends h = rw (left_none fs i h)
 
-pub returns-then-count-wide : goal.returns-then-count-wide
-returns-then-count-wide c =
-    let loop = c.loop-i in
-    let start = c.args in
-    sym (loop.invariant.1 ∙ unknown start.count start.features.now loop.i (omega arith) (omega arith))
+pub returns-then-count-from : goal.returns-then-count-from
+returns-then-count-from c =
+    sym (c.loop-i.invariant ∙ unknown c.args.count c.args.features.now c.loop-i.i (omega arith) (omega arith))
 
-pub returns-then-named : goal.returns-then-named
-returns-then-named c =
-    let loop = c.loop-i in
-    let start = c.args in
-    sym (loop.invariant.1 ∙ repeated start.count start.features.now loop.i (omega arith) (omega arith) (sym c.named.ensures ∙ c.if-named.true))
+pub returns-then-contains : goal.returns-then-contains
+returns-then-contains c =
+    let again = sym (any_member _ _) ∙ sym c.contains.ensures.value ∙ c.if-contains.true in
+    sym (c.loop-i.invariant ∙ repeated c.args.count c.args.features.now c.loop-i.i (omega arith) (omega arith) again)
 
 pub loop-i-preserved : goal.loop-i-preserved
 loop-i-preserved c =
-    let loop = c.loop-i in
-    let start = c.args in (
-      omega arith,
-      loop.invariant.1 ∙ goes_on start.count start.features.now loop.i (omega arith) (omega arith) (sym c.named.ensures ∙ c.if-named.false),
-    )
+    let new = sym (any_member _ _) ∙ sym c.contains.ensures.value ∙ c.if-contains.false in
+    c.loop-i.invariant ∙ goes_on c.args.count c.args.features.now c.loop-i.i (omega arith) (omega arith) new
 
 pub returns : goal.returns
-returns c =
-    let loop = c.loop-i in
-    let start = c.args in
-    sym (loop.invariant.1 ∙ ends start.count start.features.now loop.i c.loop-i-test.false)
+returns c = sym (c.loop-i.invariant ∙ ends c.args.count c.args.features.now c.loop-i.i (omega arith))

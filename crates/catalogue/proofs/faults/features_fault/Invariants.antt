@@ -1,14 +1,10 @@
 -- `faults::features_fault`: the fault of all features is at each turn the fault of those that are left, with those passed
 -- as the ones already read; a feature that is known and new gives none.
-use Prim.Native.Nat.{◌-◌, ◌≤◌}
 use mathlib.Core.Path.{◌≡◌}
 use mathlib.Core.List.{[]}
-use lib.ListN.{length, take, drop}
+use lib.ListN.{take, drop}
 use Rattle.builds.specs.Fault.{features_fault}
 use Rattle.catalogue.proofs.faults.features_fault.Given as goal
 
 abbrev pub invariant-loop-i : goal.invariant-loop-i
-invariant-loop-i l = (l.i ≤ length l.features) × (features_fault l.count [] l.features ≡ features_fault l.count (take l.i l.features) (drop l.i l.features))
-
-abbrev pub decreases-loop-i : goal.decreases-loop-i
-decreases-loop-i l = length l.features - l.i
+invariant-loop-i l = features_fault l.count [] l.features ≡ features_fault l.count (take l.i l.features) (drop l.i l.features)

@@ -1,15 +1,20 @@
 -- `faults::rows_fault`: the fault of all rows is at each turn the fault of those that are left, since a row that fits gives
--- none. A row is tested by itself, and the definition reads it from the front of all that is left: the same entries.
-use Prim.Native.Nat.{◌+◌, ◌*◌}
+-- none.
+use Prim.Native.Nat.{ℕ, ◌-◌, ◌*◌}
 use mathlib.Core.Path.{◌≡◌}
-use lib.ListN.{length, drop}
+use mathlib.Core.List.{List}
+use lib.ListN.{length}
+use Rattle.std.specs.Slice.Iter.{chunks_exact_rest, chunks_exact_size}
 use Rattle.builds.specs.Fault.{rows_fault}
 use Rattle.catalogue.proofs.faults.rows_fault.Given as goal
 
-abbrev pub invariant-loop-left : goal.invariant-loop-left
-invariant-loop-left l =
-    (l.place + length l.features * l.left ≡ length l.rows)
-    × (rows_fault l.sizes l.features l.count l.rows ≡ rows_fault l.sizes l.features l.left (drop l.place l.rows))
+pub record RowsLeft (sizes fs rows rest : List ℕ) (count left : ℕ) : Type 0 where
+  pub so_many : length fs * left ≡ length rest
+  pub same_fault : rows_fault sizes fs count rows ≡ rows_fault sizes fs left rest
 
-abbrev pub decreases-loop-left : goal.decreases-loop-left
-decreases-loop-left l = l.left
+abbrev pub invariant-loop-row : goal.invariant-loop-row
+invariant-loop-row l = record {
+  row_width : chunks_exact_size l.row-iterator ≡ length l.features;
+  rows_left : (count : ℕ) → length l.features * count ≡ length l.rows
+      → RowsLeft l.sizes l.features l.rows (chunks_exact_rest l.row-iterator) count (count - length l.yielded);
+}

@@ -1,16 +1,18 @@
 use Prim.Native.Nat.{ℕ, zero, suc, ◌+◌, ◌-◌, ◌≤◌, ◌<◌}
-use mathlib.Core.Path.{◌≡◌, refl, sym, ap, ◌∙◌}
+use mathlib.Core.Path.{◌≡◌, refl, sym, ◌∙◌}
 use mathlib.Core.Bool.{false}
 use mathlib.Core.List.{List, [], ◌∷◌}
 use native.Mathlib.Numerals.{add-one}
 use native.Mathlib.Omega.{arith}
 use lib.ListN.{length, drop, length-drop}
-use lib.Seq.{drop-drop}
+use Rattle.std.proofs.lemmas.Result.{err_from_is_err_and}
+use Rattle.numbers.specs.declared.refusal.Refusal.{Refusal}
+use Rattle.numbers.specs.Refusal.{number_of}
 use Rattle.builds.specs.Catalogue.{width, is_empty}
 use Rattle.builds.specs.Fault.{rule_fault, rules_fault}
 use Rattle.builds.proofs.Inversion.{rule_fault_zero}
-use Rattle.builds.proofs.WholeRule.{WholeRule}
-use Rattle.builds.proofs.ListWalks.{left_none, left_lent, first_row}
+use Rattle.builds.proofs.ListWalks.{left_lent}
+use Rattle.catalogue.proofs.Walks.{is_none, is_some, refused_first}
 use Rattle.catalogue.proofs.faults.rules_fault.Goals as goal
 
 filled : (list : List ℕ) → 0 < length list → is_empty list ≡ false
@@ -22,59 +24,73 @@ module _ (sizes list : List ℕ) (left : ℕ) where
   unfolding rules_fault
   too_many none more = rw (none, filled list more)
 
-  stops : (less : ℕ) → left ≡ less + 1 → 0 < length list → (rule_fault sizes list ≡ 0 → ⊥)
-      → rules_fault left sizes list ≡ rule_fault sizes list
+  stops : (less : ℕ) (refusal : Refusal) → left ≡ less + 1 → 0 < length list → number_of refusal ≡ rule_fault sizes list
+      → number_of refusal ≡ rules_fault left sizes list
   unfolding rules_fault
-  stops less next more some = rw (next, add-one, filled list more) (first_row (rule_fault sizes list) _ some)
+  stops less refusal next more same = rw (next, add-one, filled list more) (refused_first refusal _ same)
 
-  goes_on : (less : ℕ) → left ≡ less + 1 → 0 < length list → rule_fault sizes list ≡ 0
+  goes_on : (less : ℕ) → left ≡ less + 1 → 0 < length list → 0 ≡ rule_fault sizes list
       → rules_fault left sizes list ≡ rules_fault less sizes (drop (width list) list)
   unfolding rules_fault
-  goes_on less next more none = rw (next, add-one, filled list more, none)
+  goes_on less next more none = rw (next, add-one, filled list more, ← none)
 
 ends : (sizes list : List ℕ) (left : ℕ) → list ≡ [] → rules_fault left sizes list ≡ 0
 unfolding rules_fault
 ends sizes list zero none = rw none
 ends sizes list (suc left) none = rw none
 
-pub returns-then-left-eq0 : goal.returns-then-left-eq0
-returns-then-left-eq0 c =
-    let loop = c.loop-place in
-    sym (loop.invariant.1 ∙ too_many c.args.sizes.now (drop c.loop-place.place c.args.rules.now) loop.left c.if-left-eq0.true (simp length-drop (omega arith)))
+-- a rule without a fault lies whole in the list
+lies_whole : (sizes list : List ℕ) {taken : ℕ} → 0 ≡ rule_fault sizes list → taken ≡ width list → taken ≤ length list
+lies_whole sizes list none same =
+    let whole = rule_fault_zero sizes list (sym none) in
+    omega (arith, whole.in_list)
 
-pub returns-then-of_rule-ne0 : goal.returns-then-of_rule-ne0
-returns-then-of_rule-ne0 c =
-    let fault_here : rule_fault c.args.sizes.now (drop c.loop-place.place c.args.rules.now) ≡ c.rule_fault-of_rule.result = sym (c.rule_fault-of_rule.ensures ∙ ap (rule_fault c.args.sizes.now) (left_lent c.args.rules.now c.loop-place.place)) in
-    let loop = c.loop-place in
-    let here = fault_here in
-    sym
-    (loop.invariant.1
-    ∙ stops c.args.sizes.now (drop c.loop-place.place c.args.rules.now) loop.left (loop.left - 1) (omega arith) (simp length-drop (omega arith))
-    (λ none. c.if-of_rule-ne0.true (sym here ∙ none))
-    ∙ here)
+pub returns-then-is_empty : goal.returns-then-is_empty
+returns-then-is_empty c =
+    let loop = c.loop-passed in
+    sym (loop.invariant.1 ∙ ends c.args.sizes.now loop.rest.now _ (is_none loop.rest.now c.is_empty.ensures c.if-is_empty.true))
 
-pub rule_width-place-requires : goal.rule_width-place-requires
-rule_width-place-requires c =
-    let fault_here : rule_fault c.args.sizes.now (drop c.loop-place.place c.args.rules.now) ≡ c.rule_fault-of_rule.result = sym (c.rule_fault-of_rule.ensures ∙ ap (rule_fault c.args.sizes.now) (left_lent c.args.rules.now c.loop-place.place)) in
-    let whole_here : WholeRule (drop c.loop-place.place c.args.rules.now) = rule_fault_zero c.args.sizes.now (drop c.loop-place.place c.args.rules.now) (fault_here ∙ c.if-of_rule-ne0.false) in
-    let whole = whole_here in
-    rw left_lent (whole.has_header, whole.arity_high)
+pub returns-in_err-rule_fault : goal.returns-in_err-rule_fault
+returns-in_err-rule_fault c =
+    let loop = c.loop-passed in
+    let p = err_from_is_err_and c.from_residual.result c.from_residual.ensures.1 in
+    rw (p.1, p.2)
+    (stops c.args.sizes.now loop.rest.now (64 - loop.passed) (63 - loop.passed) _ (omega arith)
+    (is_some loop.rest.now c.is_empty.ensures c.if-is_empty.false) c.in_err-rule_fault.ensures ∙ sym loop.invariant.1)
 
-pub loop-place-preserved : goal.loop-place-preserved
-loop-place-preserved c =
-    let fault_here : rule_fault c.args.sizes.now (drop c.loop-place.place c.args.rules.now) ≡ c.rule_fault-of_rule.result = sym (c.rule_fault-of_rule.ensures ∙ ap (rule_fault c.args.sizes.now) (left_lent c.args.rules.now c.loop-place.place)) in
-    let width_here : c.rule_width-place.result ≡ width (drop c.loop-place.place c.args.rules.now) = c.rule_width-place.ensures ∙ ap width (left_lent c.args.rules.now c.loop-place.place) in
-    let whole_here : WholeRule (drop c.loop-place.place c.args.rules.now) = rule_fault_zero c.args.sizes.now (drop c.loop-place.place c.args.rules.now) (fault_here ∙ c.if-of_rule-ne0.false) in
-    let stays_in : c.loop-place.place + c.rule_width-place.result ≤ length c.args.rules.now = omega (arith, width_here, whole_here.in_list, length-drop c.loop-place.place c.args.rules.now) in
-    let loop = c.loop-place in (
-      stays_in,
+pub rule_width-requires : goal.rule_width-requires
+rule_width-requires c =
+    let whole = rule_fault_zero c.args.sizes.now c.loop-passed.rest.now (sym c.in_ok-rule_fault.ensures) in
+    (whole.has_header, whole.arity_high)
+
+pub slice_bounds-rest-count : goal.slice_bounds-rest-count
+slice_bounds-rest-count c = lies_whole _ c.loop-passed.rest.now c.in_ok-rule_fault.ensures c.rule_width.ensures
+
+pub slice_bounds-rest-start : goal.slice_bounds-rest-start
+slice_bounds-rest-start c = lies_whole _ c.loop-passed.rest.now c.in_ok-rule_fault.ensures c.rule_width.ensures
+
+pub offset_bounds-rest-rule_width : goal.offset_bounds-rest-rule_width
+offset_bounds-rest-rule_width c =
+    omega (arith, lies_whole c.args.sizes.now c.loop-passed.rest.now c.in_ok-rule_fault.ensures c.rule_width.ensures, c.well_formed)
+
+pub loop-passed-preserved : goal.loop-passed-preserved
+loop-passed-preserved c =
+    let loop = c.loop-passed in
+    let fewer : 64 - (loop.passed + 1) ≡ 63 - loop.passed = omega arith in
+    rw left_lent (
+      simp length-drop (omega arith),
       loop.invariant.1
-          ∙ goes_on c.args.sizes.now (drop c.loop-place.place c.args.rules.now) loop.left (loop.left - 1) (omega arith) (simp length-drop (omega arith))
-          (fault_here ∙ c.if-of_rule-ne0.false)
-          ∙ rw (width_here, drop-drop),
+          ∙ goes_on c.args.sizes.now loop.rest.now (64 - loop.passed) (63 - loop.passed) (omega arith)
+          (is_some loop.rest.now c.is_empty.ensures c.if-is_empty.false) c.in_ok-rule_fault.ensures
+          ∙ rw (fewer, c.rule_width.ensures),
     )
 
-pub returns : goal.returns
-returns c =
-    let loop = c.loop-place in
-    sym (loop.invariant.1 ∙ ends c.args.sizes.now (drop c.loop-place.place c.args.rules.now) loop.left (left_none c.args.rules.now loop.place c.loop-place-test.false))
+pub returns-then-is_empty-2 : goal.returns-then-is_empty-2
+returns-then-is_empty-2 c =
+    let loop = c.loop-passed in
+    sym (loop.invariant.1 ∙ ends c.args.sizes.now loop.rest.now _ (is_none loop.rest.now c.is_empty-2.ensures c.if-is_empty-2.true))
+
+pub returns-else-is_empty-2 : goal.returns-else-is_empty-2
+returns-else-is_empty-2 c =
+    let loop = c.loop-passed in
+    sym (loop.invariant.1 ∙ too_many c.args.sizes.now loop.rest.now _ (omega arith) (is_some loop.rest.now c.is_empty-2.ensures c.if-is_empty-2.false))

@@ -1,54 +1,35 @@
-use Prim.Native.Nat.{ℕ, ◌+◌, ◌≤◌, ◌<◌}
-use mathlib.Core.Path.{◌≡◌, sym, ◌∙◌}
-use mathlib.Core.List.{List}
-use native.Mathlib.Omega.{arith}
-use borrow.Author.Tests.{le-leb, lt-leb}
-use lib.ListN.{length, get_or, drop}
-use Rattle.builds.specs.Fault.{sizes_fault}
-use Rattle.builds.proofs.ListWalks.{left_next, left_none}
+use Prim.Native.Nat.{ℕ}
+use mathlib.Core.Path.{◌≡◌, refl, sym, ap, ◌∙◌}
+use mathlib.Core.Bool.{Bool, true, false, cond, not, ◌&&◌}
+use mathlib.Core.List.{List, [], ◌∷◌}
+use borrow.Author.Rules.{rules}
+use borrow.Author.Tests.{tests}
+use Rattle.std.specs.List.{list_all}
+use Rattle.std.proofs.lemmas.Iterator.{YieldsList-from_slice}
+use Rattle.std.proofs.lemmas.Iterator.Search.{all_from_yields_List}
+use Rattle.builds.specs.Checks.{when, or_else}
+use Rattle.builds.specs.Fault.{one_to_16, sizes_fault}
 use Rattle.catalogue.proofs.faults.sizes_fault.Goals as goal
 
-module _ (sizes : List ℕ) (i : ℕ) where
-  goes_on : i < length sizes → 1 ≤ get_or sizes i 0 → get_or sizes i 0 ≤ 16 → sizes_fault (drop i sizes) ≡ sizes_fault (drop (i + 1) sizes)
-  unfolding sizes_fault
-  goes_on h low high = rw (left_next sizes i h, le-leb 1 (get_or sizes i 0) low, le-leb (get_or sizes i 0) 16 high)
+one_more : (fits all : Bool) (later : ℕ) → later ≡ cond all 0 11 → or_else (when (not fits) 11) later ≡ cond (fits && all) 0 11
+one_more true all later same = same
+one_more false all later same = refl
 
-  too_small : i < length sizes → get_or sizes i 0 ≡ 0 → sizes_fault (drop i sizes) ≡ 11
-  unfolding sizes_fault
-  too_small h none = rw (left_next sizes i h, none)
+all_sizes : (sizes : List ℕ) → sizes_fault sizes ≡ cond (list_all one_to_16 sizes) 0 11
+unfolding sizes_fault
+all_sizes [] = refl
+all_sizes (size ∷ sizes) = one_more (one_to_16 size) (list_all one_to_16 sizes) _ (all_sizes sizes)
 
-  too_large : i < length sizes → 16 < get_or sizes i 0 → sizes_fault (drop i sizes) ≡ 11
-  unfolding sizes_fault
-  too_large h high =
-      let low : 1 ≤ get_or sizes i 0 = omega arith in
-      rw (left_next sizes i h, le-leb 1 (get_or sizes i 0) low, lt-leb (get_or sizes i 0) 16 high)
+-- what `all` answers decides
+decided : (sizes : List ℕ) (answer : Bool) → answer ≡ list_all one_to_16 sizes → cond answer 0 11 ≡ sizes_fault sizes
+decided sizes answer same = ap (λ (all : Bool). cond all 0 11) same ∙ sym (all_sizes sizes)
 
-  ends : length sizes ≤ i → sizes_fault (drop i sizes) ≡ 0
-  unfolding sizes_fault
-  ends h = rw (left_none sizes i h)
+pub returns-then-all : goal.returns-then-all
+returns-then-all c =
+    let answer = all_from_yields_List one_to_16 _ _ c.all.result c.all.ensures.ran (YieldsList-from_slice c.args.sizes.now cc) (λ x b q k. search (rules, tests)) in
+    rw c.if-all.true at (decided c.args.sizes.now c.all.result answer)
 
-pub returns-then-size-eq0 : goal.returns-then-size-eq0
-returns-then-size-eq0 c =
-    let loop = c.loop-i in
-    let sizes = c.args.sizes.now in
-    sym (loop.invariant.1 ∙ too_small sizes loop.i c.loop-i-test.true c.if-size-eq0.true)
-
-pub returns-then-size-gt16 : goal.returns-then-size-gt16
-returns-then-size-gt16 c =
-    let loop = c.loop-i in
-    let sizes = c.args.sizes.now in
-    sym (loop.invariant.1 ∙ too_large sizes loop.i c.loop-i-test.true c.if-size-gt16.true)
-
-pub loop-i-preserved : goal.loop-i-preserved
-loop-i-preserved c =
-    let loop = c.loop-i in
-    let sizes = c.args.sizes.now in (
-      omega arith,
-      loop.invariant.1 ∙ goes_on sizes loop.i c.loop-i-test.true (omega arith) c.if-size-gt16.false,
-    )
-
-pub returns : goal.returns
-returns c =
-    let loop = c.loop-i in
-    let sizes = c.args.sizes.now in
-    sym (loop.invariant.1 ∙ ends sizes loop.i c.loop-i-test.false)
+pub returns-else-all : goal.returns-else-all
+returns-else-all c =
+    let answer = all_from_yields_List one_to_16 _ _ c.all.result c.all.ensures.ran (YieldsList-from_slice c.args.sizes.now cc) (λ x b q k. search (rules, tests)) in
+    rw c.if-all.false at (decided c.args.sizes.now c.all.result answer)

@@ -1,34 +1,47 @@
-use mathlib.Core.Path.{◌≡◌, refl, sym, ◌∙◌}
+use Prim.Native.Nat.{ℕ, zero, suc, ◌<◌}
+use mathlib.Core.Path.{◌≡◌, refl, ◌∙◌}
+use mathlib.Core.Bool.{Bool, true, and-eq-true_iff}
+use mathlib.Core.List.{List}
 use native.Mathlib.Omega.{arith}
-use borrow.Author.Tests.{le-leb, lt-leb, not-true, not-false}
+use borrow.Author.Rules.{rules}
+use borrow.Author.Tests.{le-leb, lt-leb}
+use lib.ListN.{length, get_or}
+use Rattle.std.specs.List.{list_all}
+use Rattle.std.proofs.lemmas.Iterator.{YieldsList-from_slice}
+use Rattle.std.proofs.lemmas.Iterator.Search.{all_from_yields_List}
+use Rattle.std.proofs.lemmas.Bool.Decides.{same_from_decides}
+use Rattle.std.proofs.lemmas.List.Recursion.{and_at, and_from_places}
 use Rattle.builds.specs.Lists.{every_below}
-use Rattle.search.proofs.EveryBelow.{one_more, one_fails, all_passed}
+use Rattle.search.specs.Clinic.{no_seat}
+use Rattle.search.specs.declared.Seat.{Seat}
+use Rattle.search.specs.RecordFits.{seat_fits}
+use Rattle.search.proofs.FitsInWords.{every_below_lem}
 use Rattle.runs.specs.DeskFits.{desk_fits}
-use Rattle.checks.proofs.table.desk_fits.Invariants.{fits}
 use Rattle.checks.proofs.table.desk_fits.Goals as goal
 
-pub returns-then-desk-gt7 : goal.returns-then-desk-gt7
-unfolding desk_fits
-returns-then-desk-gt7 c = rw (lt-leb _ 7 c.if-desk-gt7.true) refl
-
-pub loop-c-init : goal.loop-c-init
+each_below : (test : ℕ → Bool) (n : ℕ) → ((k : ℕ) → k < n → test k ≡ true) → every_below n test ≡ true
 unfolding every_below
-loop-c-init c = (omega arith, refl)
+each_below test zero each = refl
+each_below test (suc n) each = (and-eq-true_iff (every_below n test) (test n)).1 (each_below test n (λ k h. each k (omega arith)), each n (omega arith))
 
-pub returns-then-not-seat_fits : goal.returns-then-not-seat_fits
+-- a test of every entry, and of every entry's index
+by_index : (test : Seat → Bool) (seats : List Seat) → list_all test seats ≡ every_below (length seats) (λ (c : ℕ). test (get_or seats c no_seat))
+by_index test seats =
+    same_from_decides {P = (c : ℕ) → c < length seats → test (get_or seats c no_seat) ≡ true} _ _ (
+      λ all c in_list. and_at (list_all test) test refl (λ _ _. refl) seats c no_seat in_list all,
+      λ each. and_from_places (list_all test) test refl (λ _ _. refl) seats no_seat each,
+    )
+    (every_below_lem (λ (c : ℕ). test (get_or seats c no_seat)) (length seats), each_below (λ (c : ℕ). test (get_or seats c no_seat)) (length seats))
+
+pub returns-then-desk-le7 : goal.returns-then-desk-le7
 unfolding desk_fits
-returns-then-not-seat_fits c =
-    let tested : (fits c.args.sizes.now c.args.rules.now c.args.desk.seats) c.loop-c.c ≡ c.seat_fits.result = sym c.seat_fits.ensures in
-    let one-off = one_fails (fits c.args.sizes.now c.args.rules.now c.args.desk.seats) 8 c.loop-c.c (omega arith) (tested ∙ not-true _ c.if-not-seat_fits.true-raw) in
-    rw (le-leb _ 7 c.if-desk-gt7.false, one-off) refl
+returns-then-desk-le7 c =
+    let fits = seat_fits (record { sizes = c.args.sizes.now; list = c.args.rules.now }) in
+    let eight : length c.args.desk.seats ≡ 8 = omega arith in
+    rw (le-leb _ 7 c.if-desk-le7.true)
+    (all_from_yields_List fits _ _ c.all.result c.all.ensures.ran (YieldsList-from_slice c.args.desk.seats cc) (λ x b q k. search rules)
+    ∙ by_index fits c.args.desk.seats ∙ rw eight)
 
-pub loop-c-preserved : goal.loop-c-preserved
-loop-c-preserved c =
-    let tested : (fits c.args.sizes.now c.args.rules.now c.args.desk.seats) c.loop-c.c ≡ c.seat_fits.result = sym c.seat_fits.ensures in
-    (omega arith, one_more _ c.loop-c.c c.loop-c.invariant.1 (tested ∙ not-false _ c.if-not-seat_fits.false-raw))
-
-pub returns : goal.returns
+pub returns-else-desk-le7 : goal.returns-else-desk-le7
 unfolding desk_fits
-returns c =
-    let all = all_passed (fits c.args.sizes.now c.args.rules.now c.args.desk.seats) c.loop-c.c 8 (omega arith) c.loop-c.invariant.1 in
-    rw (le-leb _ 7 c.if-desk-gt7.false, all) refl
+returns-else-desk-le7 c = rw (lt-leb c.args.desk.next 7 c.if-desk-le7.false) refl

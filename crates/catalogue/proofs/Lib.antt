@@ -1,0 +1,2 @@
+-- What the checks' walks share.
+pub mod Walks

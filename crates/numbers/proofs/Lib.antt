@@ -1,0 +1,2 @@
+-- What the numbers of the refusals tell.
+pub mod Numbers

@@ -1,0 +1,2 @@
+-- For the code alone.
+pub mod Inner
