@@ -86,8 +86,9 @@ fn option_at(placed: &[u8], feature: usize) -> u16
 // The row test: whether one of the rows, which stand one after another, matches what is placed at the features. Each row is
 // compared from its last position back, for most rows differ there. What is placed at the last feature is looked up once for
 // all rows; the place is that of a row's last option.
-// Stays: no plainer by `rows.chunks_exact(features.len())`, which divides the rows' length at each test; each row would still be
-// cut into its last option and its front.
+// Stays: tried, `for row in rows.chunks_exact(features.len())` misses the speed of this form (`tools/bench --layouts`): ten
+// features of three fell from 0.81 to 0.85 times checked Rust to 0.76 to 0.82, 64 rules of 62 rows from 0.62 to 0.78 to 0.51
+// to 0.70.
 fn some_row(rows: &[u16], features: &[u16], placed: &[u8]) -> bool
     requires rows_whole { (1 ≤ length features.now) × WholeRows (length features.now) rows.now }
     requires each_below { EachBelow (length placed.now) features.now }
@@ -110,9 +111,9 @@ fn some_row(rows: &[u16], features: &[u16], placed: &[u8]) -> bool
 
 // Whether a row, or the front of one, matches what is placed at the features; compared from its last position back. It counts
 // the positions that are equal, for an index that falls compiles to a loop of more instructions.
-// Stays: tried, `for i in (0..features.len()).rev()` misses the speed of this form, which `tools/bench --layouts` measures: rules
-// whose rows end alike fell from 0.46 to 0.67 times plain Rust to 0.33 to 0.52, ten features of three from 0.81 to 0.85 times
-// checked Rust to 0.73 to 0.79.
+// Stays: tried, `for i in (0..features.len()).rev()` misses the speed of this form (`tools/bench --layouts`): rows that end
+// alike fell from 0.46 to 0.67 times plain Rust to 0.33 to 0.52, ten features of three from 0.81 to 0.85 times checked Rust
+// to 0.73 to 0.79.
 fn row_matches(row: &[u16], features: &[u16], placed: &[u8]) -> bool
     requires as_long { length row.now ≡ length features.now }
     requires each_below { EachBelow (length placed.now) features.now }

@@ -31,8 +31,8 @@ pub fn with_mark(working: u8, c: usize, mark: bool) -> u8
     working & (255 - bit)
 }
 
-// The first seat at work from `next` upward around the ring, if there is one. The marks are put twice, so that the seats from `next` on
-// stand in one row, and the first is as far ahead as there are zeros below it.
+// The first seat at work from `next` upward around the ring, if there is one. The marks are put twice, so that the seats
+// from `next` on stand in one row, and the first is as far ahead as there are zeros below it.
 pub fn first_at_work(working: u8, next: usize) -> Option<usize>
     requires { next < 8 }
     ensures { MatchOption result (true_from 8 (marks_of working) next ≡ none)

@@ -1,14 +1,10 @@
 use Prim.Native.Nat.{ℕ, suc, ◌-◌}
-use mathlib.Core.Path.{◌≡◌, refl, sym, ◌∙◌}
+use mathlib.Core.Path.{◌≡◌, sym, ◌∙◌}
 use native.Mathlib.Omega.{arith}
-use native.Mathlib.Numerals.{add-one}
 use lib.ListN.{get_or}
 use Rattle.builds.proofs.PlacedWalks.{get_d_within}
 use Rattle.step.proofs.WentBack.{found_below, none_below}
 use Rattle.step.proofs.written.given_up.Goals as goal
-
-pub loop-j-init : goal.loop-j-init
-loop-j-init c = rw (add-one c.args.depth) refl
 
 pub returns-in-Some : goal.returns-in-Some
 returns-in-Some c =
@@ -29,11 +25,3 @@ loop-j-preserved c =
     let read : get_or a.placed.now d 0 ≡ get_or a.placed.now d 255 = get_d_within a.placed.now d 0 255 (omega arith) in
     sym (none_below a.sizes.now a.choices.now a.i a.option a.placed.now c.requires.placed_at.sixteen d (omega arith) (rw read at c.in_default.ensures))
     ∙ rw here at c.loop-j.invariant
-
-pub returns : goal.returns
-returns c =
-    let first : c.loop-j.j ≡ 0 = omega arith in
-    record {
-      depth_in_reach = omega arith;
-      gives_up = rw first at c.loop-j.invariant;
-    }

@@ -29,12 +29,8 @@ passed_told : (tested : Option ℕ) → is_some tested ≡ false → is_none (ru
 passed_told None e = refl
 passed_told (Some rule) e = sym e
 
-pub given_up-requires : goal.given_up-requires
-given_up-requires c =
-    record {
-      within = (few_features c.requires, (tried_fits c.requires).depth_below);
-      placed_at = c.requires.placed_so;
-    }
+pub given_up-requires-clause-within : goal.given_up-requires-clause-within
+given_up-requires-clause-within c = (few_features c.requires, (tried_fits c.requires).depth_below)
 
 pub returns-then-is_some : goal.returns-then-is_some
 unfolding tried passes
