@@ -59,6 +59,8 @@ pub fn turned_back(given: HostDesk, turned: Turned) -> HostTurned
     }
 }
 
+// Stays: tests the number, and no Result: it is what the desk's answers hold and the records hand on (`desk_back` of
+// specs/Door is by the number too).
 fn desk_back(number: u8, given: HostDesk, desk: Desk) -> HostDesk
     ensures { result ≡ desk_back number given desk }
 {

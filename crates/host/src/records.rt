@@ -1,4 +1,5 @@
 // The records that a C or Rust host holds: plain numbers and arrays, laid out as C lays them out.
+// Stays: numbers for states and refusals, flags and fixed arrays: the C interface.
 #[repr(C)]
 #[derive(Clone, Copy)]
 pub struct HostSeat {

@@ -21,14 +21,10 @@ pub fn play(board: &mut [u8], sizes: &[u8], rules: &[u16], script: &[u16]) -> Ch
 {
     let opened = desk::open(board, sizes, rules);
     let mut desk = opened.desk;
-    let mut place = 0usize;
-    while script.len() - place >= 4 {
-        let kind = script[place];
-        let who = script[place + 1];
-        let feature = script[place + 2];
-        let option = script[place + 3];
-        desk = one_call(desk, board, sizes, rules, kind, who, feature, option);
-        place += 4;
+    for call in script.chunks_exact(4) {
+        desk = one_call(
+            desk, board, sizes, rules, call[0], call[1], call[2], call[3],
+        );
     }
     Changed {
         number: opened.number,
@@ -37,6 +33,7 @@ pub fn play(board: &mut [u8], sizes: &[u8], rules: &[u16], script: &[u16]) -> Ch
 }
 
 // One call of the script; only the desk of its answer is kept.
+// Stays: the call's kind is a number, since a script is any numbers and `call_meant` says what each of them calls.
 fn one_call(
     desk: Desk,
     board: &mut [u8],
@@ -51,9 +48,9 @@ fn one_call(
         ≡ (performed sizes.now rules.now desk board.old
         (call_meant kind who feature option)).room }
 {
-    let c = who as usize;
-    let i = feature as usize;
-    let a = option as usize;
+    let c = usize::from(who);
+    let i = usize::from(feature);
+    let a = usize::from(option);
     match kind {
         0 => desk::enter(desk, board, sizes, rules, c).desk,
         1 => desk::leave(desk, board, sizes, rules, c).desk,

@@ -113,6 +113,8 @@ pub fn example<'a>(
 }
 
 // The refusal number of the same call, 0 for none.
+// Stays: a number, and `example` with no bytes: "A second call with the same checks gives the refusal number, 0 for none";
+// `NumberIs` and `BytesAre` of runs' specs/Answers hold the two.
 pub fn example_number(
     desk: Desk,
     board: &[u8],

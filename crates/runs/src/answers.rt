@@ -1,5 +1,8 @@
 // What the calls answer. The number is 0 for none; of a refused call all else is 0 or false, and the desk is as it came
 // (a refused open's is a fresh one).
+// Stays: structs with a number, and no Result: "A refusal leaves desk and board as they came, with numbers 0, no seat at work
+// reported" and a refused open hands back a desk, so that a refused call answers all its fields; `ChangesTo`, `ReadsAs`, `RanAs`
+// and `TurnsTo` of specs/Answers hold them.
 use crate::Desk;
 
 #[derive(Clone, Copy)]
