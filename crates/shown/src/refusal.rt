@@ -24,7 +24,14 @@ pub struct Lengths {
 pub fn refused(console: &Console, number: u8, lengths: Lengths, asked: Asked) {
     print!(console; "refused {number}: ");
     if let Ok(refusal) = Refusal::try_from(number) {
-        print!(console; "{}", Reason { refusal, lengths, asked });
+        print!(console;
+            "{}",
+            Reason {
+                refusal,
+                lengths,
+                asked
+            }
+        );
     }
 }
 
@@ -38,19 +45,30 @@ pub struct Reason {
 
 impl Display for Reason {
     fn fmt<W: fmt::Write>(&self, f: &mut Formatter<W>) -> fmt::Result {
-        let Lengths { board, sizes, rules } = self.lengths;
-        let Asked { seat, feature, option } = self.asked;
+        let board = self.lengths.board;
+        let sizes = self.lengths.sizes;
+        let rules = self.lengths.rules;
+        let seat = self.asked.seat;
+        let feature = self.asked.feature;
+        let option = self.asked.option;
         match self.refusal {
             Refusal::WrongBoardLength => write!(f, "the board has {board} bytes, not 32768"),
-            Refusal::FeatureCountOutOfRange => write!(f, "the catalogue has {sizes} features, not 1 to 16"),
+            Refusal::FeatureCountOutOfRange => write!(
+                f,
+                "the catalogue has {sizes} features, not 1 to 16"
+            ),
             Refusal::SizeOutOfRange => f.write_str("a size is 0 or above 16"),
             Refusal::RuleListTooLong => write!(f, "the rule list has {rules} numbers, above 8192"),
             Refusal::TooManyRules => f.write_str("numbers remain after 64 rules"),
             Refusal::RuleListEndsEarly => f.write_str("the rule list ends within a rule"),
             Refusal::ArityOutOfRange => f.write_str("the arity of a rule is 0 or above 6"),
-            Refusal::UnknownRuleFeature => f.write_str("a rule names a feature that is not in the catalogue"),
+            Refusal::UnknownRuleFeature => f.write_str(
+                "a rule names a feature that is not in the catalogue",
+            ),
             Refusal::RepeatedRuleFeature => f.write_str("a rule names a feature twice"),
-            Refusal::RowOptionTooHigh => f.write_str("a row has an option that is not below its feature's size"),
+            Refusal::RowOptionTooHigh => f.write_str(
+                "a row has an option that is not below its feature's size",
+            ),
             Refusal::DeskDoesNotFit => f.write_str("the desk does not fit the catalogue"),
             Refusal::NoSuchSeat => write!(f, "there is no seat {seat}"),
             Refusal::SeatClosed => write!(f, "seat {seat} is closed"),
