@@ -26,7 +26,7 @@ pub fn put_rules(rules: &mut [u16], from: usize, numbers: &[u32]) -> usize {
 }
 
 // Puts items into a list from a place on, as many as there is room for; answers the place after them.
-pub(crate) fn put<S: Copy, T: Copy, F: Fn(S) -> T>(
+fn put<S: Copy, T: Copy, F: Fn(S) -> T>(
     list: &mut [T],
     from: usize,
     items: &[S],
