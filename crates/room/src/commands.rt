@@ -3,7 +3,7 @@ use crate::parts::{Parts, in_use};
 use crate::{Lent, Room, calls, digest, fields, list, showing, work};
 use desk::Desk;
 use lines::commands::{Command, View};
-use lines::{Console, at, byte, text};
+use lines::{Console, at, byte};
 use shown::{Asked, help};
 
 impl Room {
@@ -58,11 +58,11 @@ fn perform(console: &Console, parts: &mut Parts, command: Command, numbers: &[u3
         Command::Work => work::make_ready(console, parts, asked, watched),
         Command::SetNext => {
             parts.desk.next = byte(asked.seat);
-            text(console, b"set\n");
+            println!(console; "set");
         }
         Command::SetSeat(field) => {
             fields::set(&mut parts.desk, field, numbers);
-            text(console, b"set\n");
+            println!(console; "set");
         }
         Command::View(view) => show(console, parts, view, asked.seat),
         Command::Supply(_) | Command::Quit | Command::Exit => {}

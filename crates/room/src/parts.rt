@@ -1,6 +1,7 @@
 // The desk, and just as much of the lent memory as is in use: what the desk's calls get.
 use desk::{Changed, Desk, Left, Ran, Turned};
 use lines::commands::Change;
+use numbers::Refusal;
 use seat::Seat;
 use shown::{Asked, Lengths};
 
@@ -44,6 +45,11 @@ impl Parts<'_> {
             seat as usize,
             i,
         )
+    }
+
+    // Why a seat's options can't be read now, if they can't. The desk answers 0 where they can, which is no refusal's number.
+    pub fn unreadable(&self, seat: u32) -> Option<Refusal> {
+        Refusal::try_from(self.left(seat, 0).number).ok()
     }
 
     pub fn alternatives(&self, asked: Asked) -> Left {
