@@ -3,5 +3,6 @@
 #![tactic(auto)]
 
 mod faults;
+mod lent;
 
-pub use faults::fault;
+pub use lent::Catalogue;

@@ -1,15 +1,16 @@
 // The table of refusals, in its order. Of the board the checks ask the length alone.
 ghost use Rattle.std.specs.Prelude.{◌≡◌, List, ℕ, length, map};
 ghost use Rattle.numbers.specs.Refusal.{number_of, refusal_number};
-ghost use Rattle.builds.specs.Catalogue.{catalogue_of};
 ghost use Rattle.builds.specs.Checks.{first};
 ghost use Rattle.builds.specs.Fault.{fault_of};
+ghost use Rattle.catalogue.specs.Lent.{catalogue_lent};
 ghost use Rattle.checks.specs.Inner.Refuses.{Refuses};
 ghost use Rattle.runs.specs.Call.{asks, turns};
 ghost use Rattle.runs.specs.DeskFits.{desk_fits};
 ghost use Rattle.runs.specs.RefusalTable.{open_refusal, refusal, row, seat_rows, asked_rows};
 ghost use Rattle.runs.specs.Room.{room_of};
 
+use catalogue::Catalogue;
 use look::{has_choice, is_at_work, is_closed, is_left};
 use numbers::Refusal;
 use numbers::Refusal::{
@@ -50,28 +51,23 @@ const EXAMPLE: [Refusal; 5] = [
 const RAN_INTO: [Refusal; 1] = [SeatClosed];
 
 // 1 and 10 to 18: what open checks.
-pub fn check_open(board_length: usize, sizes: &[u8], rules: &[u16]) -> Result<(), Refusal>
+pub fn check_open(board_length: usize, catalogue: &Catalogue) -> Result<(), Refusal>
     ensures { (board : List ℕ) → length board ≡ board_length
-        → refusal_number result ≡ open_refusal (catalogue_of sizes.now rules.now) board }
+        → refusal_number result ≡ open_refusal (catalogue_lent catalogue.now) board }
 {
     if board_length != 32768 {
         return Err(Refusal::WrongBoardLength);
     }
-    catalogue::fault(sizes, rules)
+    catalogue.fault()
 }
 
 // 1 to 20: what every other call checks first, and all that turns checks.
-pub fn check_turns(
-    desk: Desk,
-    board_length: usize,
-    sizes: &[u8],
-    rules: &[u16],
-) -> Result<(), Refusal>
+pub fn check_turns(desk: Desk, board_length: usize, catalogue: &Catalogue) -> Result<(), Refusal>
     ensures { (board : List ℕ) → length board ≡ board_length → (w : ℕ)
-        → refusal_number result ≡ refusal (catalogue_of sizes.now rules.now) (turns w) (room_of desk board) }
+        → refusal_number result ≡ refusal (catalogue_lent catalogue.now) (turns w) (room_of desk board) }
 {
-    check_open(board_length, sizes, rules)?;
-    if desk_fits(desk, sizes, rules) {
+    check_open(board_length, catalogue)?;
+    if desk_fits(desk, catalogue) {
         Ok(())
     } else {
         Err(Refusal::DeskDoesNotFit)
@@ -83,18 +79,17 @@ pub fn check_asking(
     asking: Asking,
     desk: Desk,
     board_length: usize,
-    sizes: &[u8],
-    rules: &[u16],
+    catalogue: &Catalogue,
     c: usize,
 ) -> Result<(), Refusal>
-    ensures { Refuses sizes.now rules.now desk board_length (asks c asking) (refusal_number result) }
+    ensures { Refuses (catalogue_lent catalogue.now) desk board_length (asks c asking) (refusal_number result) }
 {
-    check_turns(desk, board_length, sizes, rules)?;
+    check_turns(desk, board_length, catalogue)?;
     if 7 < c {
         return Err(Refusal::NoSuchSeat);
     }
     let seats = desk.seats;
-    asked(asking, seats[c], sizes)
+    asked(asking, seats[c], catalogue.sizes)
 }
 
 // The rows that the call lists, of the feature and the option that it names.
@@ -143,10 +138,10 @@ fn row(listed: &[Refusal], refusal: Refusal, condition: bool) -> Result<(), Refu
 }
 
 // Number 20: the desk fits a catalogue without a fault.
-fn desk_fits(desk: Desk, sizes: &[u8], rules: &[u16]) -> bool
-    requires { fault_of (catalogue_of sizes.now rules.now) ≡ 0 }
-    ensures { result ≡ desk_fits (catalogue_of sizes.now rules.now) desk }
+fn desk_fits(desk: Desk, catalogue: &Catalogue) -> bool
+    requires { fault_of (catalogue_lent catalogue.now) ≡ 0 }
+    ensures { result ≡ desk_fits (catalogue_lent catalogue.now) desk }
 {
     let seats = desk.seats;
-    desk.next <= 7 && seats.iter().all(|seat| fit::seat_fits(*seat, sizes, rules))
+    desk.next <= 7 && seats.iter().all(|seat| fit::seat_fits(*seat, catalogue))
 }

@@ -1,31 +1,34 @@
 // Number 20, as far as it speaks of one seat.
 ghost use Rattle.std.specs.Prelude.{◌≡◌, true, ◌&&◌, ◌||◌, ◌^◌, ◌<◌, ◌≤◌, ltb, eqb, length, get_or};
-ghost use Rattle.builds.specs.Catalogue.{catalogue_of, rules_read};
+ghost use Rattle.builds.specs.Catalogue.{rules_read};
 ghost use Rattle.builds.specs.Fault.{fault_of, sizes_fault};
 ghost use Rattle.builds.specs.Lists.{every_below};
 ghost use Rattle.builds.specs.Inner.Starts.{whole_rules};
+ghost use Rattle.catalogue.specs.Lent.{catalogue_lent};
 ghost use Rattle.search.specs.Look.{is_at_work};
 ghost use Rattle.search.specs.RecordFits.{choice_fits, mask_fits, replaceable, alternatives_fit, empty_at};
 ghost use Rattle.search.specs.RecordFits.{place_fits, seat_fits, entry_fits};
 ghost use Rattle.fit.specs.Inner.Trial.{rest_fits, placed_fits};
 ghost use Rattle.fit.specs.Inner.Masks.{no_bit};
 
+use catalogue::Catalogue;
 use numbers::size_at;
 use search::{Place, Seat, State};
 
 // Whether a record fits a catalogue without a fault. A closed seat is empty, and what is empty fits any sizes.
-pub fn seat_fits(seat: Seat, sizes: &[u8], rules: &[u16]) -> bool
-    requires { fault_of (catalogue_of sizes.now rules.now) ≡ 0 }
-    ensures { result ≡ seat_fits (catalogue_of sizes.now rules.now) seat }
+pub fn seat_fits(seat: Seat, catalogue: &Catalogue) -> bool
+    requires { fault_of (catalogue_lent catalogue.now) ≡ 0 }
+    ensures { result ≡ seat_fits (catalogue_lent catalogue.now) seat }
 {
-    if !broken_fits(seat.state, seat.broken, rules) {
+    let sizes = catalogue.sizes;
+    if !broken_fits(seat.state, seat.broken, catalogue.rules) {
         return false;
     }
     match seat.state {
         State::Closed => closed_fits(&seat, sizes),
         State::Ready => open_fits(&seat, 0, sizes),
         State::AtWork(place) => {
-            place_fits(place, sizes, rules) && open_fits(&seat, usize::from(place.depth), sizes)
+            place_fits(place, catalogue) && open_fits(&seat, usize::from(place.depth), sizes)
         }
     }
 }
@@ -186,9 +189,10 @@ fn none_set(masks: &[u16; 16]) -> bool
     *masks == [0; 16]
 }
 
-fn place_fits(place: Place, sizes: &[u8], rules: &[u16]) -> bool
-    ensures { result ≡ place_fits (catalogue_of sizes.now rules.now) place }
+fn place_fits(place: Place, catalogue: &Catalogue) -> bool
+    ensures { result ≡ place_fits (catalogue_lent catalogue.now) place }
 {
+    let sizes = catalogue.sizes;
     let i = usize::from(place.feature);
     let j = usize::from(place.depth);
     i < sizes.len() && j < sizes.len() && place.option < sizes[i] && place.next < sizes[j]

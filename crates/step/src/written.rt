@@ -90,7 +90,7 @@ fn step_at(seat: Seat, place: Place, share: &mut [u8], basis: &Basis) -> Seat
 // feature is j.
 fn tested_at(j: usize, placed: &[u8], basis: &Basis) -> Option<u8>
     requires starts_known { (fault_of (catalogue_in basis.now) ≡ 0)
-        × AllStarts basis.now.rules.now basis.now.places.now basis.now.counts.now }
+        × AllStarts basis.now.catalogue.rules.now basis.now.places.now basis.now.counts.now }
     requires sixteen_placed { (j < 16) × (length placed.now ≡ 16) }
     ensures { rule_broken result
         ≡ first_broken (rules_of (catalogue_in basis.now)) j placed.now }
@@ -99,7 +99,7 @@ fn tested_at(j: usize, placed: &[u8], basis: &Basis) -> Option<u8>
     let starts = j * 64;
     let numbers = 16 + starts;
     placed::test(
-        basis.rules,
+        basis.catalogue.rules,
         j,
         &basis.places[starts..starts + count],
         &basis.counts[numbers..numbers + count],
@@ -156,14 +156,14 @@ fn after_step(
         }
         Way::Build => {
             if chosen_otherwise(choices, feature, option) {
-                return pair_ended(basis.sizes, choices, feature, option, Shown::Alternative);
+                return pair_ended(basis.catalogue.sizes, choices, feature, option, Shown::Alternative);
             }
             let i = feature as usize;
             let a = option as usize;
             write_example(share, i * 256 + a * 16, placed);
-            pair_ended(basis.sizes, choices, feature, option, Shown::Left)
+            pair_ended(basis.catalogue.sizes, choices, feature, option, Shown::Left)
         }
-        Way::Exhausted => pair_ended(basis.sizes, choices, feature, option, Shown::Nothing),
+        Way::Exhausted => pair_ended(basis.catalogue.sizes, choices, feature, option, Shown::Nothing),
     }
 }
 
@@ -199,12 +199,12 @@ fn try_next(
     let i = place.feature as usize;
     let j = depth as usize;
     if tested.is_some() {
-        return given_up(basis.sizes, choices, i, option, depth, placed);
+        return given_up(basis.catalogue.sizes, choices, i, option, depth, placed);
     }
-    if j + 1 == basis.sizes.len() {
+    if j + 1 == basis.catalogue.sizes.len() {
         return Way::Build;
     }
-    let first = first_candidate(basis.sizes, choices, i, option, j + 1);
+    let first = first_candidate(basis.catalogue.sizes, choices, i, option, j + 1);
     Way::GoOn {
         depth: depth + 1,
         next: first,

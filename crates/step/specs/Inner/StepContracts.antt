@@ -1,9 +1,10 @@
 -- The enums of the code as the definitions have them, and what its functions need and say; no promise cites this file.
 use Rattle.std.specs.Prelude.{ℕ, ◌≡◌, Bool, true, false, Option, List, length, get_or}
-use Rattle.builds.specs.Catalogue.{Catalogue, catalogue_of, rules_of}
+use Rattle.builds.specs.Catalogue.{Catalogue, rules_of}
 use Rattle.builds.specs.Rule.{first_broken}
 use Rattle.builds.specs.Fault.{fault_of}
 use Rattle.builds.specs.Inner.Starts.{AllStarts}
+use Rattle.catalogue.specs.Lent.{catalogue_lent}
 use Rattle.placed.specs.Tested.{rule_broken}
 use Rattle.search.specs.declared.Seat.{Seat}
 use Rattle.search.specs.declared.Place.{Place}
@@ -32,14 +33,14 @@ depth_in Exhausted = 0
 -- ---- a step
 
 abbrev pub catalogue_in : Basis → Catalogue
-catalogue_in basis = catalogue_of basis.sizes.now basis.rules.now
+catalogue_in basis = catalogue_lent basis.catalogue
 
 -- what a step needs: a catalogue without a fault, a record that fits it, a share, where the rules begin, and the edge
 pub record StepNeeds (basis : Basis) (seat : Seat) (share : List ℕ) : Type 0 where
   pub no_fault : fault_of (catalogue_in basis) ≡ 0
   pub fits : seat_fits (catalogue_in basis) seat ≡ true
   pub whole_share : length share ≡ 4096
-  pub starts : AllStarts basis.rules.now basis.places.now basis.counts.now
+  pub starts : AllStarts basis.catalogue.rules.now basis.places.now basis.counts.now
   pub the_edge : basis.edge.now ≡ edge_bytes
 
 -- what it leaves: record and share of the written search, one step on

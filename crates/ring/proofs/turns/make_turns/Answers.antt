@@ -7,10 +7,11 @@ use mathlib.Core.Option.{some}
 use native.Mathlib.Omega.{arith}
 use borrow.Author.Rules.{rules}
 use lib.ListN.{length, set, length-replicate}
-use Rattle.builds.specs.Catalogue.{Catalogue, catalogue_of}
+use Rattle.builds.specs.Catalogue.{Catalogue}
 use Rattle.builds.proofs.Faultless.{fault_zero, fault_whole}
 use Rattle.builds.specs.Lists.{put}
 use Rattle.builds.specs.Fault.{fault_of}
+use Rattle.catalogue.specs.Lent.{catalogue_lent}
 use Rattle.search.specs.declared.Seat.{Seat}
 use Rattle.search.specs.Clinic.{clinic_of}
 use Rattle.search.specs.Step.{step}
@@ -38,14 +39,14 @@ turned_so now fault left l found seat share same mark is = rw is at (turn_made n
 
 pub starts_of-requires : goal.starts_of-requires
 starts_of-requires c =
-    let catalogue : Catalogue = catalogue_of c.args.sizes.now c.args.rules.now in record {
+    let catalogue : Catalogue = catalogue_lent c.args.catalogue.now in record {
       rules_whole = (fault_whole catalogue c.requires.sound.1, (fault_zero catalogue c.requires.sound.1).list_fits);
       room_for_starts = (length-replicate {A = ℕ} 1024 0, refl);
     }
 
 pub loop-made-init : goal.loop-made-init
 loop-made-init c =
-    let catalogue : Catalogue = catalogue_of c.args.sizes.now c.args.rules.now in
+    let catalogue : Catalogue = catalogue_lent c.args.catalogue.now in
     let first : Room = room_of c.args.desk c.args.board.now in
     let eight = eight_seats_lem c.args.desk _ c.well_formed.0 in
     let sixteen = sixteen_each c.args.desk _ c.well_formed.0 in
