@@ -169,7 +169,8 @@ impl TryFrom<usize> for Command {
 }
 
 // A command's number, and where its form stands.
-// Stays: a number, and no Command, since `takes` and `write_form` take any.
+// Stays: a number, and no Command: `takes` and `write_form` may not change, they take any number, and outside this crate
+// only the program calls them.
 #[derive(Clone, Copy)]
 pub struct Form {
     pub command: usize,

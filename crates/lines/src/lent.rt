@@ -1,11 +1,10 @@
 // A line's numbers, put into the lent memory.
-ghost use Rattle.std.specs.Prelude.{◌≤◌};
+ghost use Rattle.std.specs.Prelude.{◌≡◌, ◌≤◌, ◌%◌};
 
 use crate::console::Console;
-use crate::writing::text;
 
 pub fn set_byte(console: &Console, board: &mut [u8], place: u32, value: u32) {
-    text(console, b"set\n");
+    println!(console; "set");
     if let Some(entry) = board.get_mut(place as usize) {
         *entry = byte(value);
     }
@@ -23,7 +22,7 @@ pub fn put_sizes(sizes: &mut [u8], numbers: &[u32]) -> usize {
 
 // The numbers in the lent rule list from a place on; answers the place after them.
 pub fn put_rules(rules: &mut [u16], from: usize, numbers: &[u32]) -> usize {
-    put(rules, from, numbers, |n| (n % 65536) as u16)
+    put(rules, from, numbers, two_bytes)
 }
 
 // Puts items into a list from a place on, as many as there is room for; answers the place after them.
@@ -46,6 +45,17 @@ pub(crate) fn put<S: Copy, T: Copy, F: Fn(S) -> T>(
     from + count
 }
 
-pub fn byte(n: u32) -> u8 {
+// A number's low byte. A line's number is no greater where a byte is wanted, `commands::takes` sees to that; it is cut here
+// so that no caller has to show it.
+pub fn byte(n: u32) -> u8
+    ensures { result ≡ n % 256 }
+{
     (n % 256) as u8
+}
+
+// A number's two low bytes, cut for the same reason.
+pub fn two_bytes(n: u32) -> u16
+    ensures { result ≡ n % 65536 }
+{
+    (n % 65536) as u16
 }

@@ -10,8 +10,6 @@ mod writing;
 
 pub use console::Console;
 pub use incoming::{LONGEST, TYPED, append, asked_to_stop, is_person, read_some};
-pub use lent::{byte, fill, put_rules, put_sizes, set_byte};
-pub use reading::{Stretch, at, between, end_of, first, least, read_numbers, same};
-pub use writing::{
-    Spaced, around, counted, entries, hexadecimal, number, report, report_number, text,
-};
+pub use lent::{byte, fill, put_rules, put_sizes, set_byte, two_bytes};
+pub use reading::{Stretch, at, between, end_of, read_numbers};
+pub use writing::{Counted, Spaced, report, report_number, text};

@@ -1,12 +1,6 @@
 // Words and numbers in bytes. Every place is held to what is there, so no caller has to show that it is.
 ghost use Rattle.std.specs.Prelude.{◌≡◌, ◌≤◌, length, min, slice_range};
 
-pub fn least(a: usize, b: usize) -> usize
-    ensures { (result ≤ a) × (result ≤ b) }
-{
-    a.min(b)
-}
-
 // What stands from one place up to another.
 pub fn between<T>(all: &[T], from: usize, to: usize) -> &[T]
     ensures { result.now ≡ slice_range all.now (min from (min to (length all.now))) (min to (length all.now)) }
@@ -48,10 +42,6 @@ pub fn end_of(all: &[u8], from: usize, stretch: Stretch) -> usize
         .map_or(all.len(), |so_many| start + so_many)
 }
 
-pub fn same(a: &[u8], b: &[u8]) -> bool {
-    a == b
-}
-
 // Reads the numbers after a command's word, up to a remark, and answers how many. More than there is room for is wrong for
 // every command, as is a word that is no number.
 pub fn read_numbers(line: &[u8], numbers: &mut [u32]) -> Option<usize> {
@@ -75,11 +65,6 @@ fn number_of(word: &[u8]) -> Option<u32> {
         value = value.checked_mul(10)?.checked_add(digit)?;
     }
     Some(value)
-}
-
-// The first of some numbers.
-pub fn first(numbers: &[u32], count: usize) -> &[u32] {
-    between(numbers, 0, count)
 }
 
 // One of a line's or a list's numbers, 0 where there are not so many.

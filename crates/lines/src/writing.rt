@@ -6,6 +6,7 @@ use std::fmt::{Display, Formatter};
 use std::io::Write;
 use std::{fmt, io};
 
+// Bytes as they are: a script's name and a remark need not be text.
 pub fn text(console: &Console, words: &[u8]) {
     note(console, console.output.write_all(words));
 }
@@ -19,14 +20,6 @@ impl Console {
     pub fn println<T: Display + Drop>(&self, words: T) {
         note(self, self.output.println(words));
     }
-}
-
-pub fn number(console: &Console, n: u64) {
-    console.print(n);
-}
-
-pub fn hexadecimal(console: &Console, n: u64) {
-    print!(console; "{n:016x}");
 }
 
 // What could not be written is lost, and is reported.
@@ -52,25 +45,16 @@ pub fn report_number(console: &Console, word: &[u8], n: u64) {
     }
 }
 
-// Words around a number.
-pub fn around(console: &Console, before: &[u8], n: u64, after: &[u8]) {
-    text(console, before);
-    number(console, n);
-    text(console, after);
-}
-
 // So many of something: `1 rule`, `2 rules`.
-pub fn counted(console: &Console, n: u64, what: &[u8]) {
-    print!(console; "{n} ");
-    text(console, what);
-    if n != 1 {
-        text(console, b"s");
-    }
-}
+#[derive(Clone, Copy)]
+pub struct Counted(pub u64, pub &'static str);
 
-// Bytes with a blank before each; `-` stands for 255.
-pub fn entries(console: &Console, all: &[u8]) {
-    console.print(Spaced::entries(all));
+impl Display for Counted {
+    fn fmt<W: fmt::Write>(&self, f: &mut Formatter<W>) -> fmt::Result {
+        let Counted(count, what) = *self;
+        let plural = if count == 1 { "" } else { "s" };
+        write!(f, "{count} {what}{plural}")
+    }
 }
 
 // Numbers as they stand in a line: a blank before each, and `-` for the one that means none.

@@ -1,5 +1,6 @@
 -- The refusals by their numbers, as callers are told them.
-use Rattle.std.specs.Prelude.{ℕ, Result, Ok, Err}
+use Rattle.std.specs.Prelude.{ℕ, ◌≡◌, ◌≢◌, Result, Ok, Err, MatchResult}
+use Rattle.numbers.specs.declared.refusal.NoRefusal.{NoRefusal}
 use Rattle.numbers.specs.declared.refusal.Refusal.{Refusal}
 use Rattle.numbers.specs.declared.refusal.Refusal.TheVariants.{WrongBoardLength, FeatureCountOutOfRange, SizeOutOfRange, RuleListTooLong, TooManyRules, RuleListEndsEarly, ArityOutOfRange, UnknownRuleFeature, RepeatedRuleFeature, RowOptionTooHigh, DeskDoesNotFit, NoSuchSeat, SeatClosed, SeatOpen, SeatAtWork, NoSuchFeature, NoSuchOption, FeatureHasChoice, OptionNotLeft, FeatureHasNoChoice}
 
@@ -29,3 +30,8 @@ number_of FeatureHasNoChoice = 38
 abbrev pub refusal_number : Result (Unit {0}) Refusal → ℕ
 refusal_number (Ok nothing) = 0
 refusal_number (Err refusal) = number_of refusal
+
+-- what a number tells: the refusal that has it, or that none has
+abbrev pub Tells : ℕ → Result Refusal NoRefusal → Type 0
+Tells number told = MatchResult told (λ refusal. number_of refusal ≡ number)
+    (λ none. (none.0 ≡ number) × ((refusal : Refusal) → number_of refusal ≢ number))

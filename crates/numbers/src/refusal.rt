@@ -1,6 +1,6 @@
 // Why a call is refused: a case for each row of the table, in its order.
 ghost use Rattle.std.specs.Prelude.{◌≡◌};
-ghost use Rattle.numbers.specs.Refusal.{number_of};
+ghost use Rattle.numbers.specs.Refusal.{number_of, Tells};
 
 #[derive(Clone, Copy, PartialEq, Eq)]
 pub enum Refusal {
@@ -52,6 +52,42 @@ impl Refusal {
             Refusal::FeatureHasChoice => 36,
             Refusal::OptionNotLeft => 37,
             Refusal::FeatureHasNoChoice => 38,
+        }
+    }
+}
+
+// A number that is no refusal's.
+#[derive(Clone, Copy, PartialEq, Eq)]
+pub struct NoRefusal(pub u8);
+
+impl TryFrom<u8> for Refusal {
+    type Error = NoRefusal;
+
+    ghost try_from_gives = { Tells };
+
+    fn try_from(number: u8) -> Result<Self, NoRefusal> {
+        match number {
+            1 => Ok(Refusal::WrongBoardLength),
+            10 => Ok(Refusal::FeatureCountOutOfRange),
+            11 => Ok(Refusal::SizeOutOfRange),
+            12 => Ok(Refusal::RuleListTooLong),
+            13 => Ok(Refusal::TooManyRules),
+            14 => Ok(Refusal::RuleListEndsEarly),
+            15 => Ok(Refusal::ArityOutOfRange),
+            16 => Ok(Refusal::UnknownRuleFeature),
+            17 => Ok(Refusal::RepeatedRuleFeature),
+            18 => Ok(Refusal::RowOptionTooHigh),
+            20 => Ok(Refusal::DeskDoesNotFit),
+            30 => Ok(Refusal::NoSuchSeat),
+            31 => Ok(Refusal::SeatClosed),
+            32 => Ok(Refusal::SeatOpen),
+            33 => Ok(Refusal::SeatAtWork),
+            34 => Ok(Refusal::NoSuchFeature),
+            35 => Ok(Refusal::NoSuchOption),
+            36 => Ok(Refusal::FeatureHasChoice),
+            37 => Ok(Refusal::OptionNotLeft),
+            38 => Ok(Refusal::FeatureHasNoChoice),
+            _ => Err(NoRefusal(number)),
         }
     }
 }

@@ -1,29 +1,32 @@
 // The words of an accepted call.
-use crate::refusal::{Asked, option_of_feature};
+use crate::refusal::Asked;
+use lines::Console;
 use lines::commands::Change;
-use lines::{Console, around, number, text};
 
 pub fn accepted(console: &Console, change: Change, asked: Asked) {
-    let seat = asked.seat as u64;
+    let Asked {
+        seat,
+        feature,
+        option,
+    } = asked;
     match change {
-        Change::Open => text(console, b"opened: eight seats, all closed\n"),
-        Change::Enter => around(console, b"seat ", seat, b" has entered and is at work\n"),
-        Change::Leave => around(console, b"seat ", seat, b" has left\n"),
+        Change::Open => println!(console; "opened: eight seats, all closed"),
+        Change::Enter => println!(console; "seat {seat} has entered and is at work"),
+        Change::Leave => println!(console; "seat {seat} has left"),
         Change::Choose => {
-            around(console, b"seat ", seat, b" chose ");
-            option_of_feature(console, asked, b" and is at work\n");
+            print!(console; "seat {seat} chose option {option} of feature {feature}");
+            println!(console; " and is at work");
         }
         Change::Relax => {
-            around(console, b"seat ", seat, b" dropped its choice of feature ");
-            number(console, asked.feature as u64);
-            text(console, b" and is at work\n");
+            print!(console; "seat {seat} dropped its choice of feature {feature}");
+            println!(console; " and is at work");
         }
     }
 }
 
 // What no refusal has beside it; a refusal that had would be seen.
 pub fn beside(console: &Console, made: u16, working: bool) {
-    text(console, b"; ");
+    print!(console; "; ");
     turns_made(console, made, working);
 }
 

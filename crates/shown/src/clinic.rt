@@ -1,6 +1,4 @@
 // Looking at a seat's record and at a share of the board.
-ghost use Rattle.std.specs.Prelude.{◌≤◌};
-
 use lines::{Console, Spaced, between};
 use search::{Place, Seat, State};
 use std::fmt;
@@ -65,17 +63,6 @@ pub fn nothing_left(seat: Seat, features: usize) -> bool {
     between(&seat.masks, 0, features)
         .iter()
         .all(|mask| *mask == 0)
-}
-
-// Writes the number of a seat that is at work; answers 1 for such a seat, 0 for another.
-pub fn named_at_work(console: &Console, seat: Seat, c: usize) -> u64
-    ensures { result ≤ 1 }
-{
-    if !look::is_at_work(seat) {
-        return 0;
-    }
-    print!(console; " {c}");
-    1
 }
 
 pub fn share(console: &Console, board: &[u8], seat: u32) {

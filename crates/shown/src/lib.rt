@@ -9,5 +9,5 @@ pub mod help;
 mod refusal;
 
 pub use acceptance::{accepted, beside, options_of, rule_met, turns_made};
-pub use clinic::{named_at_work, nothing_left, pair, record, share};
-pub use refusal::{Asked, Lengths, option_of_feature, refused, words_of_room};
+pub use clinic::{nothing_left, pair, record, share};
+pub use refusal::{Asked, Lengths, Reason, refused};

@@ -1,5 +1,8 @@
 // The words of a refusal.
-use lines::{Console, text};
+use lines::Console;
+use numbers::Refusal;
+use std::fmt;
+use std::fmt::{Display, Formatter};
 
 // What the numbers of a call were.
 #[derive(Clone, Copy)]
@@ -17,64 +20,65 @@ pub struct Lengths {
     pub rules: usize,
 }
 
-pub fn refused(console: &Console, refusal: u8, lengths: Lengths, asked: Asked) {
-    print!(console; "refused {refusal}: ");
-    if refusal < 30 {
-        words_of_room(console, refusal, lengths);
-    } else {
-        of_seat(console, refusal, asked);
+// A call's answer has its refusal as a number, as C reads it.
+pub fn refused(console: &Console, number: u8, lengths: Lengths, asked: Asked) {
+    print!(console; "refused {number}: ");
+    if let Ok(refusal) = Refusal::try_from(number) {
+        print!(console;
+            "{}",
+            Reason {
+                refusal,
+                lengths,
+                asked
+            }
+        );
     }
 }
 
-// The words of what is wrong with board, catalogue or desk.
-pub fn words_of_room(console: &Console, refusal: u8, lengths: Lengths) {
-    let Lengths {
-        board,
-        sizes,
-        rules,
-    } = lengths;
-    match refusal {
-        1 => print!(console; "the board has {board} bytes, not 32768"),
-        10 => print!(console; "the catalogue has {sizes} features, not 1 to 16"),
-        11 => print!(console; "a size is 0 or above 16"),
-        12 => print!(console; "the rule list has {rules} numbers, above 8192"),
-        13 => print!(console; "numbers remain after 64 rules"),
-        14 => print!(console; "the rule list ends within a rule"),
-        15 => print!(console; "the arity of a rule is 0 or above 6"),
-        16 => print!(console; "a rule names a feature that is not in the catalogue"),
-        17 => print!(console; "a rule names a feature twice"),
-        18 => print!(console; "a row has an option that is not below its feature's size"),
-        20 => print!(console; "the desk does not fit the catalogue"),
-        _ => {}
-    }
+// A refusal in words.
+#[derive(Clone, Copy)]
+pub struct Reason {
+    pub refusal: Refusal,
+    pub lengths: Lengths,
+    pub asked: Asked,
 }
 
-fn of_seat(console: &Console, refusal: u8, asked: Asked) {
-    let Asked {
-        seat,
-        feature,
-        option,
-    } = asked;
-    match refusal {
-        30 => print!(console; "there is no seat {seat}"),
-        31 => print!(console; "seat {seat} is closed"),
-        32 => print!(console; "seat {seat} is open"),
-        33 => print!(console; "seat {seat} is at work"),
-        34 => print!(console; "there is no feature {feature}"),
-        35 => print!(console; "feature {feature} has no option {option}"),
-        36 => print!(console; "feature {feature} has a choice"),
-        37 => option_of_feature(console, asked, b" is not left"),
-        38 => print!(console; "feature {feature} has no choice"),
-        _ => {}
+impl Display for Reason {
+    fn fmt<W: fmt::Write>(&self, f: &mut Formatter<W>) -> fmt::Result {
+        let board = self.lengths.board;
+        let sizes = self.lengths.sizes;
+        let rules = self.lengths.rules;
+        let seat = self.asked.seat;
+        let feature = self.asked.feature;
+        let option = self.asked.option;
+        match self.refusal {
+            Refusal::WrongBoardLength => write!(f, "the board has {board} bytes, not 32768"),
+            Refusal::FeatureCountOutOfRange => write!(
+                f,
+                "the catalogue has {sizes} features, not 1 to 16"
+            ),
+            Refusal::SizeOutOfRange => f.write_str("a size is 0 or above 16"),
+            Refusal::RuleListTooLong => write!(f, "the rule list has {rules} numbers, above 8192"),
+            Refusal::TooManyRules => f.write_str("numbers remain after 64 rules"),
+            Refusal::RuleListEndsEarly => f.write_str("the rule list ends within a rule"),
+            Refusal::ArityOutOfRange => f.write_str("the arity of a rule is 0 or above 6"),
+            Refusal::UnknownRuleFeature => f.write_str(
+                "a rule names a feature that is not in the catalogue",
+            ),
+            Refusal::RepeatedRuleFeature => f.write_str("a rule names a feature twice"),
+            Refusal::RowOptionTooHigh => f.write_str(
+                "a row has an option that is not below its feature's size",
+            ),
+            Refusal::DeskDoesNotFit => f.write_str("the desk does not fit the catalogue"),
+            Refusal::NoSuchSeat => write!(f, "there is no seat {seat}"),
+            Refusal::SeatClosed => write!(f, "seat {seat} is closed"),
+            Refusal::SeatOpen => write!(f, "seat {seat} is open"),
+            Refusal::SeatAtWork => write!(f, "seat {seat} is at work"),
+            Refusal::NoSuchFeature => write!(f, "there is no feature {feature}"),
+            Refusal::NoSuchOption => write!(f, "feature {feature} has no option {option}"),
+            Refusal::FeatureHasChoice => write!(f, "feature {feature} has a choice"),
+            Refusal::OptionNotLeft => write!(f, "option {option} of feature {feature} is not left"),
+            Refusal::FeatureHasNoChoice => write!(f, "feature {feature} has no choice"),
+        }
     }
-}
-
-pub fn option_of_feature(console: &Console, asked: Asked, after: &[u8]) {
-    let Asked {
-        feature,
-        option,
-        ..
-    } = asked;
-    print!(console; "option {option} of feature {feature}");
-    text(console, after);
 }

@@ -2,22 +2,19 @@
 use crate::faults::fault;
 use crate::lists::Columns;
 use crate::met::{Met, arity, cut, features_and_rows, first_rule, meet, row_count};
-use lines::{Console, counted, text};
+use lines::{Console, Counted};
 
 // The features, the rules that stand before the fault met first, and that fault.
 pub fn catalogue(console: &Console, sizes: &[u8], rules: &[u16]) {
     let found = meet(sizes, rules);
-    counted(console, sizes.len() as u64, b"feature");
-    text(console, b", ");
-    counted(console, found.whole as u64, b"rule");
-    text(console, b"\nfeature ");
+    let features = Counted(sizes.len() as u64, "feature");
+    let whole = Counted(found.whole as u64, "rule");
+    print!(console; "{features}, {whole}\nfeature ");
     first_numbers(console, sizes.len());
-    text(console, b"\noptions ");
-    println!(console; "{}", Columns(sizes));
+    println!(console; "\noptions {}", Columns(sizes));
     first_rules(console, found);
     if let Some(refusal) = found.fault {
         fault(console, refusal, found);
-        text(console, b"\n");
     }
 }
 
@@ -39,9 +36,8 @@ fn first_rules(console: &Console, found: Met) {
 fn write_rule(console: &Console, i: usize, rule: &[u16]) {
     let (features, rows) = features_and_rows(rule);
     let count = row_count(rule);
-    print!(console; "rule {i}: ");
-    counted(console, count as u64, b"row");
-    println!(console; "\nfeature {}", Columns(features));
+    println!(console; "rule {i}: {}", Counted(count as u64, "row"));
+    println!(console; "feature {}", Columns(features));
     write_rows(console, rows, arity(rule), count);
 }
 

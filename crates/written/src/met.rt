@@ -56,7 +56,11 @@ fn width(rule: &[u16]) -> usize {
 // Of a list that is too long no rule is read.
 pub fn meet<'a>(sizes: &'a [u8], rules: &'a [u16]) -> Met<'a> {
     let fault = catalogue::fault(sizes, rules).err();
-    let most = if fault == Some(Refusal::RuleListTooLong) { 0 } else { 64 };
+    let most = if fault == Some(Refusal::RuleListTooLong) {
+        0
+    } else {
+        64
+    };
     let (whole, rest) = walk(sizes, rules, most);
     Met {
         sizes,
