@@ -15,12 +15,12 @@ pub fn list(console: &Console, parts: &Parts, seat: u32) {
     match parts.left(seat, 0).number {
         0 => {
             around(console, b"seat ", seat as u64, b" is ready\n");
-            no_product(console, parts.record(seat), parts.sizes);
+            no_product(console, parts.record(seat), parts.catalogue.sizes);
             features(console, parts, seat);
         }
         AT_WORK => {
             around(console, b"seat ", seat as u64, b" is at work: ");
-            pair(console, parts.record(seat), parts.sizes);
+            pair(console, parts.record(seat), parts.catalogue.sizes);
             text(console, b"\n");
             ran_into(console, parts, asked);
         }
@@ -33,7 +33,7 @@ pub fn list(console: &Console, parts: &Parts, seat: u32) {
 }
 
 fn features(console: &Console, parts: &Parts, seat: u32) {
-    for i in 0..parts.sizes.len().min(16) {
+    for i in 0..parts.catalogue.sizes.len().min(16) {
         feature(console, parts, seat, i as u32);
     }
 }
@@ -59,7 +59,10 @@ fn feature(console: &Console, parts: &Parts, seat: u32, feature: u32) {
 // The build beside the option asked for.
 fn example(console: &Console, parts: &Parts, asked: Asked) {
     around(console, b"; with ", asked.option as u64, b":");
-    entries(console, between(parts.example(asked), 0, parts.sizes.len()));
+    entries(
+        console,
+        between(parts.example(asked), 0, parts.catalogue.sizes.len()),
+    );
 }
 
 // What could stand there instead.

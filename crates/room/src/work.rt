@@ -85,7 +85,7 @@ impl Work {
         let record = parts.record(self.seat);
         if self.portions % 8 == 0 && is_at_work(record) {
             self.write_over(console);
-            pair(console, record, parts.sizes);
+            pair(console, record, parts.catalogue.sizes);
             around(console, b", ", self.turns, b" turns so far\n");
             self.shown = true;
         }
@@ -105,7 +105,7 @@ impl Work {
         self.write_over(console);
         if is_at_work(record) {
             around(console, b"stopped: seat ", seat, b" is at work: ");
-            pair(console, record, parts.sizes);
+            pair(console, record, parts.catalogue.sizes);
         } else {
             around(console, b"seat ", seat, b" is ready");
         }
@@ -113,7 +113,7 @@ impl Work {
         counted(console, self.turns, b"turn");
         text(console, b"\n");
         if !is_at_work(record) {
-            no_product(console, record, parts.sizes);
+            no_product(console, record, parts.catalogue.sizes);
         }
     }
 }
