@@ -1,8 +1,7 @@
 // A catalogue that has passed its check: what needs one without a fault takes it, and asks for nothing more.
-ghost use Rattle.std.specs.Prelude.{◌≡◌, IfOk, MatchResult};
-ghost use Rattle.numbers.specs.Refusal.{number_of};
+ghost use Rattle.std.specs.Prelude.{◌≡◌, IfOk};
 ghost use Rattle.builds.specs.Fault.{fault_of};
-ghost use Rattle.catalogue.specs.Lent.{catalogue_lent};
+ghost use Rattle.catalogue.specs.Lent.{catalogue_lent, refused_number};
 
 use crate::lent::Catalogue;
 use numbers::Refusal;
@@ -17,9 +16,7 @@ impl<'a> Catalogue<'a> {
     // This catalogue where it has no fault; else the fault met first.
     pub fn accepted(&self) -> Result<Accepted<'a>, Refusal>
         ensures this_one { IfOk result (λ accepted. accepted.catalogue ≡ self.now) }
-        ensures fault_told { MatchResult result
-            (λ accepted. fault_of (catalogue_lent self.now) ≡ 0)
-            (λ refusal. number_of refusal ≡ fault_of (catalogue_lent self.now)) }
+        ensures fault_told { refused_number result ≡ fault_of (catalogue_lent self.now) }
     {
         self.fault()?;
         Ok(Accepted { catalogue: *self })

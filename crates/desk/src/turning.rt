@@ -18,7 +18,7 @@ pub fn turns(desk: Desk, board: &mut [u8], catalogue: &Catalogue, w: u16) -> Tur
         result board.new }
 {
     match check_turns(desk, board.len(), catalogue) {
-        Ok(()) => make_turns(desk, board, catalogue, w),
+        Ok(accepted) => make_turns(desk, board, &accepted, w),
         Err(refusal) => Turned {
             number: refusal.number(),
             made: 0,

@@ -37,7 +37,7 @@ by_index test seats =
 pub returns-then-desk-le7 : goal.returns-then-desk-le7
 unfolding desk_fits
 returns-then-desk-le7 c =
-    let fits = seat_fits (catalogue_lent c.args.catalogue.now) in
+    let fits = seat_fits (catalogue_lent c.args.accepted.now.catalogue) in
     let eight : length c.args.desk.seats ≡ 8 = omega arith in
     rw (le-leb _ 7 c.if-desk-le7.true)
     (all_from_yields_List fits _ _ c.all.result c.all.ensures.ran (YieldsList-from_slice c.args.desk.seats cc) (λ x b q k. search rules)

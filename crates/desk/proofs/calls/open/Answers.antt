@@ -19,10 +19,10 @@ returns c =
     rw c.fresh.ensures
     (elim c.match-check_open.branch [
       | in-Ok w ↦
-          let zero : open_refusal catalogue board ≡ 0 = sym (w.in-Ok.ensures board refl) in
+          let zero : open_refusal catalogue board ≡ 0 = sym (w.in-Ok.ensures.told board refl) in
           rw (opening_accepted catalogue board zero, w.board-is, w.empty.ensures, (opened catalogue board zero).0, w.number-is)
       | in-Err w ↦
-          let number = w.in-Err.ensures board refl in
+          let number = w.in-Err.ensures.told board refl in
           rw (
             opening_refused catalogue board (λ none. never_zero w.in-Err.refusal (number ∙ none)),
             w.board-is,

@@ -14,4 +14,4 @@ abbrev pub room : List Seat → ℕ → List ℕ → Room
 room seats next board = room_of (record { seats = seats; next = next }) board
 
 abbrev pub invariant-loop-made : goal.invariant-loop-made
-invariant-loop-made l = Turning (catalogue_lent l.catalogue) l.w (room l.initial.seats l.initial.next l.initial.board) l.made (marks_of l.working) (room l.seats l.next l.board)
+invariant-loop-made l = Turning (catalogue_lent l.accepted.catalogue) l.w (room l.initial.seats l.initial.next l.initial.board) l.made (marks_of l.working) (room l.seats l.next l.board)
