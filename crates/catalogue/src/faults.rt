@@ -3,21 +3,25 @@ ghost use Rattle.std.specs.Prelude.{◌≡◌, ℕ, [], ◌≤◌, ◌<◌, ◌*
 ghost use Rattle.numbers.specs.Refusal.{refusal_number};
 ghost use Rattle.builds.specs.Fault.{sizes_fault, features_fault, row_fits, rows_fault, rule_fault, rules_fault, fault_of};
 ghost use Rattle.builds.specs.Catalogue.{arity, width};
+ghost use Rattle.catalogue.specs.Lent.{catalogue_lent};
 
+use crate::lent::Catalogue;
 use numbers::{Refusal, size_at};
 
-// 10 to 18, or none.
-pub fn fault(sizes: &[u8], rules: &[u16]) -> Result<(), Refusal>
-    ensures { refusal_number result ≡ fault_of (record { sizes = sizes.now; list = rules.now }) }
-{
-    if sizes.is_empty() || 16 < sizes.len() {
-        return Err(Refusal::FeatureCountOutOfRange);
+impl Catalogue<'_> {
+    // 10 to 18, or none.
+    pub fn fault(&self) -> Result<(), Refusal>
+        ensures { refusal_number result ≡ fault_of (catalogue_lent self.now) }
+    {
+        if self.sizes.is_empty() || 16 < self.sizes.len() {
+            return Err(Refusal::FeatureCountOutOfRange);
+        }
+        sizes_fault(self.sizes)?;
+        if 8192 < self.rules.len() {
+            return Err(Refusal::RuleListTooLong);
+        }
+        rules_fault(self)
     }
-    sizes_fault(sizes)?;
-    if 8192 < rules.len() {
-        return Err(Refusal::RuleListTooLong);
-    }
-    rules_fault(sizes, rules)
 }
 
 fn sizes_fault(sizes: &[u8]) -> Result<(), Refusal>
@@ -31,15 +35,15 @@ fn sizes_fault(sizes: &[u8]) -> Result<(), Refusal>
 }
 
 // Rule by rule while numbers remain, 64 at most.
-fn rules_fault(sizes: &[u8], rules: &[u16]) -> Result<(), Refusal>
-    ensures { refusal_number result ≡ rules_fault 64 sizes.now rules.now }
+fn rules_fault(catalogue: &Catalogue) -> Result<(), Refusal>
+    ensures { refusal_number result ≡ rules_fault 64 catalogue.now.sizes.now catalogue.now.rules.now }
 {
-    let mut rest = rules;
+    let mut rest = catalogue.rules;
     for passed in 0..64usize {
         if rest.is_empty() {
             return Ok(());
         }
-        rule_fault(sizes, rest)?;
+        rule_fault(catalogue.sizes, rest)?;
         rest = &rest[rule_width(rest)..];
     }
     if rest.is_empty() {

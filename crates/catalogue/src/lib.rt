@@ -1,7 +1,10 @@
 // Sizes and a rule list as lent numbers, any content: `fault` reads both from the front and refuses with the fault met
-// first.
+// first, and `accepted` hands on the catalogue that has none.
 #![tactic(auto)]
 
+mod checked;
 mod faults;
+mod lent;
 
-pub use faults::fault;
+pub use checked::Accepted;
+pub use lent::Catalogue;

@@ -1,15 +1,15 @@
 // The table of refusals, in its order. Of the board the checks ask the length alone.
-ghost use Rattle.std.specs.Prelude.{◌≡◌, List, ℕ, length, map};
+ghost use Rattle.std.specs.Prelude.{◌≡◌, List, ℕ, length, map, IfOk};
 ghost use Rattle.numbers.specs.Refusal.{number_of, refusal_number};
-ghost use Rattle.builds.specs.Catalogue.{catalogue_of};
 ghost use Rattle.builds.specs.Checks.{first};
-ghost use Rattle.builds.specs.Fault.{fault_of};
+ghost use Rattle.catalogue.specs.Lent.{catalogue_lent, refused_number};
 ghost use Rattle.checks.specs.Inner.Refuses.{Refuses};
 ghost use Rattle.runs.specs.Call.{asks, turns};
 ghost use Rattle.runs.specs.DeskFits.{desk_fits};
 ghost use Rattle.runs.specs.RefusalTable.{open_refusal, refusal, row, seat_rows, asked_rows};
 ghost use Rattle.runs.specs.Room.{room_of};
 
+use catalogue::{Accepted, Catalogue};
 use look::{has_choice, is_at_work, is_closed, is_left};
 use numbers::Refusal;
 use numbers::Refusal::{
@@ -49,30 +49,34 @@ const EXAMPLE: [Refusal; 5] = [
 
 const RAN_INTO: [Refusal; 1] = [SeatClosed];
 
-// 1 and 10 to 18: what open checks.
-pub fn check_open(board_length: usize, sizes: &[u8], rules: &[u16]) -> Result<(), Refusal>
-    ensures { (board : List ℕ) → length board ≡ board_length
-        → refusal_number result ≡ open_refusal (catalogue_of sizes.now rules.now) board }
+// 1 and 10 to 18: what open checks. A catalogue that passes is handed on.
+pub fn check_open<'a>(
+    board_length: usize,
+    catalogue: &Catalogue<'a>,
+) -> Result<Accepted<'a>, Refusal>
+    ensures this_one { IfOk result (λ accepted. accepted.catalogue ≡ catalogue.now) }
+    ensures told { (board : List ℕ) → length board ≡ board_length
+        → refused_number result ≡ open_refusal (catalogue_lent catalogue.now) board }
 {
     if board_length != 32768 {
         return Err(Refusal::WrongBoardLength);
     }
-    catalogue::fault(sizes, rules)
+    catalogue.accepted()
 }
 
-// 1 to 20: what every other call checks first, and all that turns checks.
-pub fn check_turns(
+// 1 to 20: what every other call checks first, and all that turns checks. A catalogue that passes is handed on.
+pub fn check_turns<'a>(
     desk: Desk,
     board_length: usize,
-    sizes: &[u8],
-    rules: &[u16],
-) -> Result<(), Refusal>
-    ensures { (board : List ℕ) → length board ≡ board_length → (w : ℕ)
-        → refusal_number result ≡ refusal (catalogue_of sizes.now rules.now) (turns w) (room_of desk board) }
+    catalogue: &Catalogue<'a>,
+) -> Result<Accepted<'a>, Refusal>
+    ensures this_one { IfOk result (λ accepted. accepted.catalogue ≡ catalogue.now) }
+    ensures told { (board : List ℕ) → length board ≡ board_length → (w : ℕ)
+        → refused_number result ≡ refusal (catalogue_lent catalogue.now) (turns w) (room_of desk board) }
 {
-    check_open(board_length, sizes, rules)?;
-    if desk_fits(desk, sizes, rules) {
-        Ok(())
+    let accepted = check_open(board_length, catalogue)?;
+    if desk_fits(desk, &accepted) {
+        Ok(accepted)
     } else {
         Err(Refusal::DeskDoesNotFit)
     }
@@ -83,18 +87,17 @@ pub fn check_asking(
     asking: Asking,
     desk: Desk,
     board_length: usize,
-    sizes: &[u8],
-    rules: &[u16],
+    catalogue: &Catalogue,
     c: usize,
 ) -> Result<(), Refusal>
-    ensures { Refuses sizes.now rules.now desk board_length (asks c asking) (refusal_number result) }
+    ensures { Refuses (catalogue_lent catalogue.now) desk board_length (asks c asking) (refusal_number result) }
 {
-    check_turns(desk, board_length, sizes, rules)?;
+    check_turns(desk, board_length, catalogue)?;
     if 7 < c {
         return Err(Refusal::NoSuchSeat);
     }
     let seats = desk.seats;
-    asked(asking, seats[c], sizes)
+    asked(asking, seats[c], catalogue.sizes)
 }
 
 // The rows that the call lists, of the feature and the option that it names.
@@ -142,11 +145,10 @@ fn row(listed: &[Refusal], refusal: Refusal, condition: bool) -> Result<(), Refu
     }
 }
 
-// Number 20: the desk fits a catalogue without a fault.
-fn desk_fits(desk: Desk, sizes: &[u8], rules: &[u16]) -> bool
-    requires { fault_of (catalogue_of sizes.now rules.now) ≡ 0 }
-    ensures { result ≡ desk_fits (catalogue_of sizes.now rules.now) desk }
+// Number 20: the desk fits a catalogue that has passed its check.
+fn desk_fits(desk: Desk, accepted: &Accepted) -> bool
+    ensures { result ≡ desk_fits (catalogue_lent accepted.now.catalogue) desk }
 {
     let seats = desk.seats;
-    desk.next <= 7 && seats.iter().all(|seat| fit::seat_fits(*seat, sizes, rules))
+    desk.next <= 7 && seats.iter().all(|seat| fit::seat_fits(*seat, accepted))
 }

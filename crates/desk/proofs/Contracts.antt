@@ -15,6 +15,7 @@ use mathlib.Core.Path.{◌≡◌, refl}
 use mathlib.Core.List.{List}
 use Rattle.runs.specs.declared.Desk.{Desk}
 use Rattle.builds.specs.Catalogue.{catalogue_of}
+use Rattle.catalogue.specs.declared.lent.Catalogue.{Catalogue}
 use Rattle.runs.specs.declared.Asking.TheVariants.{Enter, Leave, Choose, Relax}
 use Rattle.runs.specs.Call.{Call, asks, turns}
 use Rattle.runs.specs.Answers.{ChangesTo, TurnsTo}
@@ -27,22 +28,22 @@ use Rattle.desk.specs.contracts.calls.choose as choose
 use Rattle.desk.specs.contracts.calls.relax as relax
 use Rattle.desk.specs.contracts.turning.turns as turning
 
--- what every call but open is handed: desk, board, sizes, rules, then its own numbers
+-- what every call but open is handed: desk, board, catalogue, then its own numbers
 abbrev pub Handed : Type 0 → Type 0
-Handed Numbers = Desk × (MutBor (List ℕ) × (Bor (List ℕ) × (Bor (List ℕ) × Numbers)))
+Handed Numbers = Desk × (MutBor (List ℕ) × (Bor Catalogue × Numbers))
 
 abbrev pub numbers : {Numbers : Type 0} → Handed Numbers → Numbers
-numbers handed = handed.1.1.1.1
+numbers handed = handed.1.1.1
 
 -- a call on what is handed, by the definitions
 abbrev pub outcome : {Numbers : Type 0} → Handed Numbers → Call → Outcome
-outcome handed call = performed handed.1.1.0.now handed.1.1.1.0.now handed.0 handed.1.0.now call
+outcome handed call = performed handed.1.1.0.now.sizes.now handed.1.1.0.now.rules.now handed.0 handed.1.0.now call
 
 module _ {M : Type 1} {𝓤 : Ura M} (𝓛 : Logic 𝓤) (mem : Memory → SProp 𝓤) (run : Routine → Fun 𝓤) where
   open connectives 𝓤 use {⌜◌⌝}
 
   pub open_contract : opens.spec 𝓛 mem run ≡ Always 𝓛 opens.ended (λ κs handed answer left.
-      let catalogue = catalogue_of handed.1.0.now handed.1.1.0.now in
+      let catalogue = catalogue_of handed.1.0.now.sizes.now handed.1.0.now.rules.now in
       ⌜ ChangesTo (opening catalogue handed.0.now) answer left.0.now ⌝)
   open_contract = refl
 

@@ -7,7 +7,6 @@ use native.Mathlib.Omega.{arith}
 use lib.Dec.{leb}
 use Rattle.builds.specs.Catalogue.{Catalogue}
 use Rattle.builds.specs.Lists.{member}
-use Rattle.builds.proofs.Faultless.{fault_zero}
 use Rattle.search.specs.RecordFits.{seat_fits}
 use Rattle.search.proofs.FitsInWords.{every_below_lem, seat_fits_lem}
 use Rattle.seat.specs.Inner.Placeable.{HaveBits, Placeable}
@@ -39,4 +38,4 @@ module _ {catalogue : Catalogue} {c : ℕ} {room : Room} where
       let seats = ((and-eq-true_iff (leb room.desk.next 7) _).0 call.checks.desk_fits_lem).1 in
       let fits = every_below_lem (λ (d : ℕ). seat_fits catalogue (seat_at room.desk d)) 8 seats c call.seat_below in
       let below = (seat_fits_lem catalogue (seat_at room.desk c) fits).choice_below f l chosen in
-      omega (arith, below, size_small catalogue.sizes (fault_zero catalogue call.checks.faultless).sizes_fit f)
+      omega (arith, below, size_small catalogue call.checks.faultless f)

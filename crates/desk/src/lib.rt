@@ -15,6 +15,7 @@ mod calls;
 mod turning;
 
 pub use calls::{choose, enter, leave, open, relax};
+pub use catalogue::Catalogue;
 pub use reading::{alternatives, example, example_number, options, ran_into};
 pub use runs::{Changed, Desk, Left, Ran, Turned};
 pub use turning::turns;

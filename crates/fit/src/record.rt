@@ -1,49 +1,47 @@
 // Number 20, as far as it speaks of one seat.
-ghost use Rattle.std.specs.Prelude.{◌≡◌, true, ◌&&◌, ◌||◌, ◌^◌, ◌<◌, ◌≤◌, ltb, eqb, length, get_or};
-ghost use Rattle.builds.specs.Catalogue.{catalogue_of, rules_read};
-ghost use Rattle.builds.specs.Fault.{fault_of, sizes_fault};
+ghost use Rattle.std.specs.Prelude.{◌≡◌, ◌&&◌, ◌^◌, ◌<◌, ◌≤◌, ltb, length, get_or};
+ghost use Rattle.builds.specs.Catalogue.{rules_of};
 ghost use Rattle.builds.specs.Lists.{every_below};
-ghost use Rattle.builds.specs.Inner.Starts.{whole_rules};
-ghost use Rattle.search.specs.Look.{is_at_work};
+ghost use Rattle.catalogue.specs.Lent.{catalogue_lent};
 ghost use Rattle.search.specs.RecordFits.{choice_fits, mask_fits, replaceable, alternatives_fit, empty_at};
-ghost use Rattle.search.specs.RecordFits.{place_fits, seat_fits, entry_fits};
+ghost use Rattle.search.specs.RecordFits.{place_fits, seat_fits, broken_fits, entry_fits};
 ghost use Rattle.fit.specs.Inner.Trial.{rest_fits, placed_fits};
 ghost use Rattle.fit.specs.Inner.Masks.{no_bit};
 
+use catalogue::{Accepted, Catalogue};
 use numbers::size_at;
 use search::{Place, Seat, State};
 
-// Whether a record fits a catalogue without a fault. A closed seat is empty, and what is empty fits any sizes.
-pub fn seat_fits(seat: Seat, sizes: &[u8], rules: &[u16]) -> bool
-    requires { fault_of (catalogue_of sizes.now rules.now) ≡ 0 }
-    ensures { result ≡ seat_fits (catalogue_of sizes.now rules.now) seat }
+// Whether a record fits a catalogue that has passed its check. A closed seat is empty, and what is empty fits any sizes.
+pub fn seat_fits(seat: Seat, accepted: &Accepted) -> bool
+    ensures { result ≡ seat_fits (catalogue_lent accepted.now.catalogue) seat }
 {
-    if !broken_fits(seat.state, seat.broken, rules) {
+    let sizes = accepted.catalogue.sizes;
+    if !broken_fits(seat.state, seat.broken, accepted) {
         return false;
     }
     match seat.state {
         State::Closed => closed_fits(&seat, sizes),
-        State::Ready => open_fits(&seat, 0, sizes),
+        State::Ready => open_fits(&seat, 0, accepted),
         State::AtWork(place) => {
-            place_fits(place, sizes, rules) && open_fits(&seat, usize::from(place.depth), sizes)
+            place_fits(place, &accepted.catalogue)
+                && open_fits(&seat, usize::from(place.depth), accepted)
         }
     }
 }
 
 // The last rule broken is 255, as most often, or at work the number of a rule.
-fn broken_fits(state: State, broken: u8, rules: &[u16]) -> bool
-    requires { whole_rules 64 rules.now ≡ true }
-    ensures { result ≡ (eqb broken 255
-        || (is_at_work state && ltb broken (length (rules_read 64 rules.now)))) }
+fn broken_fits(state: State, broken: u8, accepted: &Accepted) -> bool
+    ensures { result ≡ broken_fits (catalogue_lent accepted.now.catalogue) state broken }
 {
-    broken == 255 || (matches!(state, State::AtWork(_)) && has_rule(rules, broken))
+    broken == 255 || (matches!(state, State::AtWork(_)) && has_rule(accepted, broken))
 }
 
 // Whether there is a rule of this number: the walk passes so many rules, and another one begins.
-fn has_rule(rules: &[u16], number: u8) -> bool
-    requires { whole_rules 64 rules.now ≡ true }
-    ensures { result ≡ ltb number (length (rules_read 64 rules.now)) }
+fn has_rule(accepted: &Accepted, number: u8) -> bool
+    ensures { result ≡ ltb number (length (rules_of (catalogue_lent accepted.now.catalogue))) }
 {
+    let rules = accepted.catalogue.rules;
     let mut left = number;
     let mut place = 0;
     // Stays: rules differ in width, and so the place goes on by each rule's own; `for` would have to count what is read.
@@ -72,16 +70,17 @@ fn closed_fits(seat: &Seat, sizes: &[u8]) -> bool
 }
 
 // What is asked of those of an open seat.
-fn open_fits(seat: &Seat, depth: usize, sizes: &[u8]) -> bool
-    requires { sizes_fault sizes.now ≡ 0 }
-    ensures { result ≡ (every_below 16 (choice_fits sizes.now seat.now.choices)
-        && every_below 16 (mask_fits sizes.now seat.now.masks)
-        && every_below 16 (alternatives_fit sizes.now seat.now.choices seat.now.alternatives)
-        && every_below 16 (entry_fits sizes.now depth seat.now.trial)) }
+fn open_fits(seat: &Seat, depth: usize, accepted: &Accepted) -> bool
+    ensures { result ≡ (every_below 16 (choice_fits accepted.now.catalogue.sizes.now seat.now.choices)
+        && every_below 16 (mask_fits accepted.now.catalogue.sizes.now seat.now.masks)
+        && every_below 16 (alternatives_fit accepted.now.catalogue.sizes.now seat.now.choices
+        seat.now.alternatives)
+        && every_below 16 (entry_fits accepted.now.catalogue.sizes.now depth seat.now.trial)) }
 {
+    let sizes = accepted.catalogue.sizes;
     choices_fit(&seat.choices, sizes)
-        && masks_fit(&seat.masks, sizes)
-        && alternatives_fit(&seat.choices, &seat.alternatives, sizes)
+        && masks_fit(&seat.masks, accepted)
+        && alternatives_fit(&seat.choices, &seat.alternatives, accepted)
         && trial_fits(&seat.trial, depth, sizes)
 }
 
@@ -93,50 +92,46 @@ fn choices_fit(choices: &[u8; 16], sizes: &[u8]) -> bool
 }
 
 // Each mask has bits for options of its feature alone.
-fn masks_fit(masks: &[u16; 16], sizes: &[u8]) -> bool
-    requires { sizes_fault sizes.now ≡ 0 }
-    ensures { result ≡ every_below 16 (mask_fits sizes.now masks.now) }
+fn masks_fit(masks: &[u16; 16], accepted: &Accepted) -> bool
+    ensures { result ≡ every_below 16 (mask_fits accepted.now.catalogue.sizes.now masks.now) }
 {
-    (0..16).all(|f| bits_fit(masks[f], sizes, f))
+    (0..16).all(|f| bits_fit(masks[f], accepted, f))
 }
 
 // Each mask of alternatives has bits for options of its feature alone, and none where no choice is in force.
-fn alternatives_fit(choices: &[u8; 16], alternatives: &[u16; 16], sizes: &[u8]) -> bool
-    requires { sizes_fault sizes.now ≡ 0 }
+fn alternatives_fit(choices: &[u8; 16], alternatives: &[u16; 16], accepted: &Accepted) -> bool
     ensures { result ≡ every_below 16
-        (alternatives_fit sizes.now choices.now alternatives.now) }
+        (alternatives_fit accepted.now.catalogue.sizes.now choices.now alternatives.now) }
 {
     // A seat that has chosen nothing has none.
-    none_set(alternatives) || each_replaces(choices, alternatives, sizes)
+    none_set(alternatives) || each_replaces(choices, alternatives, accepted)
 }
 
 // Mask by mask.
-fn each_replaces(choices: &[u8; 16], alternatives: &[u16; 16], sizes: &[u8]) -> bool
-    requires { sizes_fault sizes.now ≡ 0 }
+fn each_replaces(choices: &[u8; 16], alternatives: &[u16; 16], accepted: &Accepted) -> bool
     ensures { result ≡ every_below 16
-        (alternatives_fit sizes.now choices.now alternatives.now) }
+        (alternatives_fit accepted.now.catalogue.sizes.now choices.now alternatives.now) }
 {
-    (0..16).all(|f| bits_below(alternatives[f], options_at(choices, sizes, f)))
+    (0..16).all(|f| bits_below(alternatives[f], options_at(choices, accepted, f)))
 }
 
 // How many options of a feature could replace its choice: none where it has none.
-fn options_at(choices: &[u8; 16], sizes: &[u8], f: usize) -> usize
-    requires { (f < 16) × (sizes_fault sizes.now ≡ 0) }
-    ensures { (result ≡ replaceable sizes.now choices.now f) × (result ≤ 16) }
+fn options_at(choices: &[u8; 16], accepted: &Accepted, f: usize) -> usize
+    requires { f < 16 }
+    ensures { (result ≡ replaceable accepted.now.catalogue.sizes.now choices.now f) × (result ≤ 16) }
 {
     if choices[f] == 255 {
         0
     } else {
-        size_at(sizes, f)
+        size_at(accepted.catalogue.sizes, f)
     }
 }
 
 // A mask has bits for options of a feature alone.
-fn bits_fit(mask: u16, sizes: &[u8], f: usize) -> bool
-    requires { sizes_fault sizes.now ≡ 0 }
-    ensures { result ≡ ltb mask (2 ^ get_or sizes.now f 0) }
+fn bits_fit(mask: u16, accepted: &Accepted, f: usize) -> bool
+    ensures { result ≡ ltb mask (2 ^ get_or accepted.now.catalogue.sizes.now f 0) }
 {
-    bits_below(mask, size_at(sizes, f))
+    bits_below(mask, size_at(accepted.catalogue.sizes, f))
 }
 
 // A mask has bits for options below a size alone.
@@ -186,9 +181,10 @@ fn none_set(masks: &[u16; 16]) -> bool
     *masks == [0; 16]
 }
 
-fn place_fits(place: Place, sizes: &[u8], rules: &[u16]) -> bool
-    ensures { result ≡ place_fits (catalogue_of sizes.now rules.now) place }
+fn place_fits(place: Place, catalogue: &Catalogue) -> bool
+    ensures { result ≡ place_fits (catalogue_lent catalogue.now) place }
 {
+    let sizes = catalogue.sizes;
     let i = usize::from(place.feature);
     let j = usize::from(place.depth);
     i < sizes.len() && j < sizes.len() && place.option < sizes[i] && place.next < sizes[j]

@@ -17,7 +17,7 @@ ghost use Rattle.host.specs.Door.{inside, through_door, opened_door, host_change
 ghost use Rattle.host.specs.Door.{host_left_answer, host_ran_answer, host_turned_outcome, example_stands};
 
 use answers::{changed_back, turned_back};
-use desk::Desk;
+use desk::{Catalogue, Desk};
 pub use records::{HostChanged, HostDesk, HostExample, HostLeft, HostRan, HostSeat, HostTurned};
 
 #[unsafe(no_mangle)]
@@ -29,7 +29,8 @@ pub extern "C" fn nethazel_open_layout_2(
     ensures { host_changed_outcome result board.new
         ≡ opened_door (catalogue_of sizes.now rules.now) board.old }
 {
-    let opened = desk::open(board, sizes, rules);
+    let catalogue = Catalogue { sizes, rules };
+    let opened = desk::open(board, &catalogue);
     let desk = opened.desk;
     HostChanged {
         number: opened.number,
@@ -49,7 +50,8 @@ pub extern "C" fn nethazel_enter_layout_2(
         ≡ through_door (catalogue_of sizes.now rules.now) (asks c Enter)
         given board.old }
 {
-    let changed = desk::enter(Desk::from(given), board, sizes, rules, c);
+    let catalogue = Catalogue { sizes, rules };
+    let changed = desk::enter(Desk::from(given), board, &catalogue, c);
     changed_back(given, changed)
 }
 
@@ -65,7 +67,8 @@ pub extern "C" fn nethazel_leave_layout_2(
         ≡ through_door (catalogue_of sizes.now rules.now) (asks c Leave)
         given board.old }
 {
-    let changed = desk::leave(Desk::from(given), board, sizes, rules, c);
+    let catalogue = Catalogue { sizes, rules };
+    let changed = desk::leave(Desk::from(given), board, &catalogue, c);
     changed_back(given, changed)
 }
 
@@ -83,7 +86,8 @@ pub extern "C" fn nethazel_choose_layout_2(
         ≡ through_door (catalogue_of sizes.now rules.now) (asks c (Choose i a))
         given board.old }
 {
-    let changed = desk::choose(Desk::from(given), board, sizes, rules, c, i, a);
+    let catalogue = Catalogue { sizes, rules };
+    let changed = desk::choose(Desk::from(given), board, &catalogue, c, i, a);
     changed_back(given, changed)
 }
 
@@ -100,7 +104,8 @@ pub extern "C" fn nethazel_relax_layout_2(
         ≡ through_door (catalogue_of sizes.now rules.now) (asks c (Relax i))
         given board.old }
 {
-    let changed = desk::relax(Desk::from(given), board, sizes, rules, c, i);
+    let catalogue = Catalogue { sizes, rules };
+    let changed = desk::relax(Desk::from(given), board, &catalogue, c, i);
     changed_back(given, changed)
 }
 
@@ -117,7 +122,8 @@ pub extern "C" fn nethazel_options_layout_2(
         ≡ (inside (catalogue_of sizes.now rules.now) (asks c (Read (Options i)))
         given board.now).answer }
 {
-    HostLeft::from(desk::options(Desk::from(given), board, sizes, rules, c, i))
+    let catalogue = Catalogue { sizes, rules };
+    HostLeft::from(desk::options(Desk::from(given), board, &catalogue, c, i))
 }
 
 #[unsafe(no_mangle)]
@@ -133,7 +139,8 @@ pub extern "C" fn nethazel_alternatives_layout_2(
         ≡ (inside (catalogue_of sizes.now rules.now) (asks c (Read (Alternatives i)))
         given board.now).answer }
 {
-    HostLeft::from(desk::alternatives(Desk::from(given), board, sizes, rules, c, i))
+    let catalogue = Catalogue { sizes, rules };
+    HostLeft::from(desk::alternatives(Desk::from(given), board, &catalogue, c, i))
 }
 
 // Both of the desk's calls for an example in one: the number, and where the bytes stand that the desk hands out.
@@ -154,7 +161,8 @@ pub extern "C" fn nethazel_example_layout_2(
         ≡ (inside (catalogue_of sizes.now rules.now) (asks c (Read (Example i a)))
         given board.now).answer.bytes }
 {
-    let number = desk::example_number(Desk::from(given), board, sizes, rules, c, i, a);
+    let catalogue = Catalogue { sizes, rules };
+    let number = desk::example_number(Desk::from(given), board, &catalogue, c, i, a);
     if number != 0 {
         return HostExample {
             number,
@@ -181,7 +189,8 @@ pub extern "C" fn nethazel_ran_into_layout_2(
         ≡ (inside (catalogue_of sizes.now rules.now) (asks c (Read RanInto))
         given board.now).answer }
 {
-    HostRan::from(desk::ran_into(Desk::from(given), board, sizes, rules, c))
+    let catalogue = Catalogue { sizes, rules };
+    HostRan::from(desk::ran_into(Desk::from(given), board, &catalogue, c))
 }
 
 #[unsafe(no_mangle)]
@@ -195,6 +204,7 @@ pub extern "C" fn nethazel_turns_layout_2(
     ensures { host_turned_outcome result board.new
         ≡ through_door (catalogue_of sizes.now rules.now) (turns w) given board.old }
 {
-    let turned = desk::turns(Desk::from(given), board, sizes, rules, w);
+    let catalogue = Catalogue { sizes, rules };
+    let turned = desk::turns(Desk::from(given), board, &catalogue, w);
     turned_back(given, turned)
 }

@@ -20,8 +20,8 @@ module _ {M : Type 1} {𝓤 : Ura M} (𝓛 : Logic 𝓤) (mem : Memory → SProp
   open connectives 𝓤 use {⌜◌⌝, ◌∗◌}
 
   pub play_contract : play.spec 𝓛 mem run ≡ Always 𝓛 play.ended (λ κs handed answer left.
-      let board = handed.0.now in let catalogue = catalogue_of handed.1.0.now handed.1.1.0.now in
-      let script = handed.1.1.1.0.now in
+      let board = handed.0.now in let catalogue = catalogue_of handed.1.0.now.sizes.now handed.1.0.now.rules.now in
+      let script = handed.1.1.0.now in
       ⌜ room_of answer.desk left.0.now ≡ moment catalogue board (calls_meant script) ⌝
       ∗ ⌜ answer.number ≡ (opening catalogue board).answer.number ⌝)
   play_contract = refl

@@ -3,28 +3,26 @@
 #![tactic(auto)]
 
 ghost use Rattle.std.specs.Prelude.{◌≡◌};
-ghost use Rattle.builds.specs.Catalogue.{catalogue_of};
+ghost use Rattle.catalogue.specs.Lent.{catalogue_lent};
 ghost use Rattle.runs.specs.Room.{room_of};
-ghost use Rattle.runs.specs.Perform.{performed, opening};
+ghost use Rattle.runs.specs.Perform.{perform, opening};
 ghost use Rattle.promises.specs.Moment.{moment};
 ghost use Rattle.play.specs.Script.{call_meant, calls_meant};
 
-use desk::{Changed, Desk};
+use desk::{Catalogue, Changed, Desk};
 
 // Answered: the number of the opening, and the desk at the end. The calls are made after a refused opening too.
-pub fn play(board: &mut [u8], sizes: &[u8], rules: &[u16], script: &[u16]) -> Changed
+pub fn play(board: &mut [u8], catalogue: &Catalogue, script: &[u16]) -> Changed
     ensures run { room_of result.desk board.new
-        ≡ moment (catalogue_of sizes.now rules.now) board.old
+        ≡ moment (catalogue_lent catalogue.now) board.old
         (calls_meant script.now) }
     ensures number { result.number
-        ≡ (opening (catalogue_of sizes.now rules.now) board.old).answer.number }
+        ≡ (opening (catalogue_lent catalogue.now) board.old).answer.number }
 {
-    let opened = desk::open(board, sizes, rules);
+    let opened = desk::open(board, catalogue);
     let mut desk = opened.desk;
     for call in script.chunks_exact(4) {
-        desk = one_call(
-            desk, board, sizes, rules, call[0], call[1], call[2], call[3],
-        );
+        desk = one_call(desk, board, catalogue, call[0], call[1], call[2], call[3]);
     }
     Changed {
         number: opened.number,
@@ -37,41 +35,39 @@ pub fn play(board: &mut [u8], sizes: &[u8], rules: &[u16], script: &[u16]) -> Ch
 fn one_call(
     desk: Desk,
     board: &mut [u8],
-    sizes: &[u8],
-    rules: &[u16],
+    catalogue: &Catalogue,
     kind: u16,
     who: u16,
     feature: u16,
     option: u16,
 ) -> Desk
     ensures { room_of result board.new
-        ≡ (performed sizes.now rules.now desk board.old
-        (call_meant kind who feature option)).room }
+        ≡ (perform (catalogue_lent catalogue.now) (call_meant kind who feature option) (room_of desk board.old)).room }
 {
     let c = usize::from(who);
     let i = usize::from(feature);
     let a = usize::from(option);
     match kind {
-        0 => desk::enter(desk, board, sizes, rules, c).desk,
-        1 => desk::leave(desk, board, sizes, rules, c).desk,
-        2 => desk::choose(desk, board, sizes, rules, c, i, a).desk,
-        3 => desk::relax(desk, board, sizes, rules, c, i).desk,
+        0 => desk::enter(desk, board, catalogue, c).desk,
+        1 => desk::leave(desk, board, catalogue, c).desk,
+        2 => desk::choose(desk, board, catalogue, c, i, a).desk,
+        3 => desk::relax(desk, board, catalogue, c, i).desk,
         4 => {
-            desk::options(desk, board, sizes, rules, c, i);
+            desk::options(desk, board, catalogue, c, i);
             desk
         }
         5 => {
-            desk::example_number(desk, board, sizes, rules, c, i, a);
+            desk::example_number(desk, board, catalogue, c, i, a);
             desk
         }
         6 => {
-            desk::alternatives(desk, board, sizes, rules, c, i);
+            desk::alternatives(desk, board, catalogue, c, i);
             desk
         }
         7 => {
-            desk::ran_into(desk, board, sizes, rules, c);
+            desk::ran_into(desk, board, catalogue, c);
             desk
         }
-        _ => desk::turns(desk, board, sizes, rules, who).desk,
+        _ => desk::turns(desk, board, catalogue, who).desk,
     }
 }

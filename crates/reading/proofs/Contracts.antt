@@ -15,6 +15,7 @@ use denote.Triple.Clauses.{Ended, AtExit, closing}
 use Prim.Native.Nat.{ℕ}
 use mathlib.Core.Path.{◌≡◌, refl}
 use mathlib.Core.List.{List}
+use Rattle.catalogue.specs.declared.lent.Catalogue.{Catalogue}
 use Rattle.runs.specs.declared.Desk.{Desk}
 use Rattle.runs.specs.declared.Asking.TheVariants.{Read}
 use Rattle.runs.specs.declared.Reading.TheVariants.{Options, Alternatives, Example, RanInto}
@@ -28,16 +29,16 @@ use Rattle.reading.specs.contracts.ran_into as ran_into
 use Rattle.reading.specs.contracts.example as example
 use Rattle.reading.specs.contracts.example_number as example_number
 
--- what every call but open is handed: desk, board, sizes, rules, then its own numbers
+-- what every call but open is handed: desk, board, catalogue, then its own numbers
 abbrev pub Handed : Type 0 → Type 0
-Handed Numbers = Desk × (Bor (List ℕ) × (Bor (List ℕ) × (Bor (List ℕ) × Numbers)))
+Handed Numbers = Desk × (Bor (List ℕ) × (Bor Catalogue × Numbers))
 
 abbrev pub numbers : {Numbers : Type 0} → Handed Numbers → Numbers
-numbers handed = handed.1.1.1.1
+numbers handed = handed.1.1.1
 
 -- a call on what is handed, by the definitions
 abbrev pub outcome : {Numbers : Type 0} → Handed Numbers → Call → Outcome
-outcome handed call = performed handed.1.1.0.now handed.1.1.1.0.now handed.0 handed.1.0.now call
+outcome handed call = performed handed.1.1.0.now.sizes.now handed.1.1.0.now.rules.now handed.0 handed.1.0.now call
 
 module _ {M : Type 1} {𝓤 : Ura M} (𝓛 : Logic 𝓤) where
   open connectives 𝓤 use {⌜◌⌝, ⊤ₛ, ◌∗◌}

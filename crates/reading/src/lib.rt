@@ -3,27 +3,28 @@
 
 ghost use Rattle.std.specs.Prelude.{◌≡◌, MatchResult};
 ghost use Rattle.numbers.specs.Refusal.{number_of};
-ghost use Rattle.builds.specs.Catalogue.{catalogue_of};
+ghost use Rattle.catalogue.specs.Lent.{catalogue_lent};
 ghost use Rattle.reading.specs.Inner.SeatRead.{SeatRead};
 ghost use Rattle.runs.specs.declared.Asking.TheVariants.{Read};
 ghost use Rattle.runs.specs.declared.Reading.TheVariants.{Options, Alternatives, Example, RanInto};
 ghost use Rattle.runs.specs.Call.{asks, refused};
 ghost use Rattle.runs.specs.Answers.{left_answer, ReadsAs, RanAs, BytesAre, BeginsAt, NumberIs};
-ghost use Rattle.runs.specs.Perform.{mask_answer, performed};
+ghost use Rattle.runs.specs.Perform.{mask_answer, perform};
 ghost use Rattle.runs.specs.Room.{room_of};
 
+use catalogue::Catalogue;
 use numbers::Refusal;
 use runs::{Asking, Desk, Left, Ran, Reading};
 use search::Seat;
 
 // The options left of one feature, and how many they are.
-pub fn options(desk: Desk, board: &[u8], sizes: &[u8], rules: &[u16], c: usize, i: usize) -> Left
+pub fn options(desk: Desk, board: &[u8], catalogue: &Catalogue, c: usize, i: usize) -> Left
     ensures { ReadsAs
-        (performed sizes.now rules.now desk board.now (asks c (Read (Options i))))
+        (perform (catalogue_lent catalogue.now) (asks c (Read (Options i))) (room_of desk board.now))
         (room_of desk board.now) result }
 {
     let reading = Reading::Options { feature: i };
-    let read = seat_read(reading, desk, board, sizes, rules, c);
+    let read = seat_read(reading, desk, board, catalogue, c);
     counted(read.map(|seat| look::mask_of(seat, i)))
 }
 
@@ -31,17 +32,16 @@ pub fn options(desk: Desk, board: &[u8], sizes: &[u8], rules: &[u16], c: usize, 
 pub fn alternatives(
     desk: Desk,
     board: &[u8],
-    sizes: &[u8],
-    rules: &[u16],
+    catalogue: &Catalogue,
     c: usize,
     i: usize,
 ) -> Left
     ensures { ReadsAs
-        (performed sizes.now rules.now desk board.now (asks c (Read (Alternatives i))))
+        (perform (catalogue_lent catalogue.now) (asks c (Read (Alternatives i))) (room_of desk board.now))
         (room_of desk board.now) result }
 {
     let reading = Reading::Alternatives { feature: i };
-    let read = seat_read(reading, desk, board, sizes, rules, c);
+    let read = seat_read(reading, desk, board, catalogue, c);
     counted(read.map(|seat| look::alternatives_of(seat, i)))
 }
 
@@ -66,12 +66,12 @@ fn counted(read: Result<u16, Refusal>) -> Left
 }
 
 // The rule that the search of a seat, at work or ready, last ran into: the last one broken in this job; 255 for none.
-pub fn ran_into(desk: Desk, board: &[u8], sizes: &[u8], rules: &[u16], c: usize) -> Ran
+pub fn ran_into(desk: Desk, board: &[u8], catalogue: &Catalogue, c: usize) -> Ran
     ensures { RanAs
-        (performed sizes.now rules.now desk board.now (asks c (Read RanInto)))
+        (perform (catalogue_lent catalogue.now) (asks c (Read RanInto)) (room_of desk board.now))
         (room_of desk board.now) result }
 {
-    match seat_read(Reading::RanInto, desk, board, sizes, rules, c) {
+    match seat_read(Reading::RanInto, desk, board, catalogue, c) {
         Ok(seat) => Ran {
             number: 0,
             rule: seat.broken,
@@ -87,24 +87,23 @@ pub fn ran_into(desk: Desk, board: &[u8], sizes: &[u8], rules: &[u16], c: usize)
 pub fn example<'a>(
     desk: Desk,
     board: &'a [u8],
-    sizes: &[u8],
-    rules: &[u16],
+    catalogue: &Catalogue,
     c: usize,
     i: usize,
     a: usize,
 ) -> &'a [u8]
     ensures bytes { BytesAre
-        (performed sizes.now rules.now desk board.now (asks c (Read (Example i a))))
+        (perform (catalogue_lent catalogue.now) (asks c (Read (Example i a))) (room_of desk board.now))
         result.now }
     ensures place { BeginsAt
-        (performed sizes.now rules.now desk board.now (asks c (Read (Example i a))))
+        (perform (catalogue_lent catalogue.now) (asks c (Read (Example i a))) (room_of desk board.now))
         board.entry.ref_ptr c i a result.ref_ptr }
 {
     let reading = Reading::Example {
         feature: i,
         option: a,
     };
-    if seat_read(reading, desk, board, sizes, rules, c).is_err() {
+    if seat_read(reading, desk, board, catalogue, c).is_err() {
         return &board[..0];
     }
     let from = c * 4096 + i * 256 + a * 16;
@@ -118,20 +117,19 @@ pub fn example<'a>(
 pub fn example_number(
     desk: Desk,
     board: &[u8],
-    sizes: &[u8],
-    rules: &[u16],
+    catalogue: &Catalogue,
     c: usize,
     i: usize,
     a: usize,
 ) -> u8
     ensures { NumberIs
-        (performed sizes.now rules.now desk board.now (asks c (Read (Example i a)))) result }
+        (perform (catalogue_lent catalogue.now) (asks c (Read (Example i a))) (room_of desk board.now)) result }
 {
     let reading = Reading::Example {
         feature: i,
         option: a,
     };
-    match seat_read(reading, desk, board, sizes, rules, c) {
+    match seat_read(reading, desk, board, catalogue, c) {
         Ok(_) => 0,
         Err(refusal) => refusal.number(),
     }
@@ -142,13 +140,12 @@ fn seat_read(
     reading: Reading,
     desk: Desk,
     board: &[u8],
-    sizes: &[u8],
-    rules: &[u16],
+    catalogue: &Catalogue,
     c: usize,
 ) -> Result<Seat, Refusal>
-    ensures { SeatRead (catalogue_of sizes.now rules.now) c reading (room_of desk board.now) result }
+    ensures { SeatRead (catalogue_lent catalogue.now) c reading (room_of desk board.now) result }
 {
-    checks::check_asking(Asking::Read(reading), desk, board.len(), sizes, rules, c)?;
+    checks::check_asking(Asking::Read(reading), desk, board.len(), catalogue, c)?;
     let seats = desk.seats;
     Ok(seats[c])
 }

@@ -1,7 +1,6 @@
 // Turns: the ring gives one waiting seat one step.
 ghost use Rattle.std.specs.Prelude.{◌≡◌, true, ◌<◌, length};
-ghost use Rattle.builds.specs.Catalogue.{catalogue_of};
-ghost use Rattle.builds.specs.Fault.{fault_of};
+ghost use Rattle.catalogue.specs.Lent.{catalogue_lent};
 ghost use Rattle.search.specs.Clinic.{clinic_of};
 ghost use Rattle.step.specs.Inner.StepContracts.{catalogue_in, StepNeeds, Stepped};
 ghost use Rattle.ring.specs.Inner.Marks.{marks_of, true_from};
@@ -13,26 +12,26 @@ ghost use Rattle.runs.specs.Room.{room_of};
 ghost use Rattle.runs.specs.Turn.{is_some};
 
 use crate::marks::{first_at_work, seats_at_work, with_mark};
+use catalogue::Accepted;
 use look::is_at_work;
 use runs::{Desk, Turned};
 use search::Seat;
 use step::Basis;
 
-// On a board and with a catalogue and a desk that passed the checks.
-pub fn make_turns(desk: Desk, board: &mut [u8], sizes: &[u8], rules: &[u16], w: u16) -> Turned
-    requires sound { (length board.old ≡ 32768) × (fault_of (catalogue_of sizes.now rules.now) ≡ 0) }
-    requires fits { desk_fits (catalogue_of sizes.now rules.now) desk ≡ true }
+// On a board and a desk that passed the checks with this catalogue.
+pub fn make_turns(desk: Desk, board: &mut [u8], accepted: &Accepted, w: u16) -> Turned
+    requires whole_board { length board.old ≡ 32768 }
+    requires fits { desk_fits (catalogue_lent accepted.now.catalogue) desk ≡ true }
     ensures { TurnsTo
-        (done (catalogue_of sizes.now rules.now) (turns w) (room_of desk board.old))
+        (done (catalogue_lent accepted.now.catalogue) (turns w) (room_of desk board.old))
         result board.new }
 {
     let mut places = [0u16; 1024];
     let mut counts = [0u8; 1040];
-    placed::starts_of(rules, &mut places, &mut counts);
+    placed::starts_of(accepted.catalogue.rules, &mut places, &mut counts);
     let edge = arrays::edge();
     let basis = Basis {
-        sizes,
-        rules,
+        accepted: *accepted,
         places: &places,
         counts: &counts,
         edge: &edge,

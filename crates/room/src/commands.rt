@@ -1,7 +1,7 @@
 // What each command does.
 use crate::parts::{Parts, in_use};
 use crate::{Lent, Room, calls, digest, fields, list, showing, work};
-use desk::Desk;
+use desk::{Catalogue, Desk};
 use lines::commands::{Command, View};
 use lines::{Console, at, byte};
 use shown::{Asked, help};
@@ -37,8 +37,10 @@ fn answer(
     let mut parts = Parts {
         desk: room.desk,
         board: &mut board[..length],
-        sizes: in_use(sizes, room.sizes_count),
-        rules: in_use(rules, room.rules_count),
+        catalogue: Catalogue {
+            sizes: in_use(sizes, room.sizes_count),
+            rules: in_use(rules, room.rules_count),
+        },
     };
     perform(console, &mut parts, command, numbers, room.watched);
     parts.desk
@@ -76,8 +78,8 @@ fn show(console: &Console, parts: &Parts, view: View, seat: u32) {
         View::Desk => showing::desk(console, desk),
         View::Share => shown::share(console, parts.board, seat),
         View::List => list::list(console, parts, seat),
-        View::Catalogue => written::catalogue(console, parts.sizes, parts.rules),
-        View::Numbers => written::numbers(console, parts.sizes, parts.rules),
+        View::Catalogue => written::catalogue(console, &parts.catalogue),
+        View::Numbers => written::numbers(console, &parts.catalogue),
         View::Digest => digest::digest(console, desk, parts.board),
         View::Help => help::help(console),
     }

@@ -16,12 +16,12 @@ pub fn list(console: &Console, parts: &Parts, seat: u32) {
     match parts.unreadable(seat) {
         None => {
             println!(console; "seat {seat} is ready");
-            no_product(console, parts.record(seat), parts.sizes);
+            no_product(console, parts.record(seat), parts.catalogue.sizes);
             features(console, parts, seat);
         }
         Some(Refusal::SeatAtWork) => {
             print!(console; "seat {seat} is at work: ");
-            pair(console, parts.record(seat), parts.sizes);
+            pair(console, parts.record(seat), parts.catalogue.sizes);
             println!(console);
             ran_into(console, parts, asked);
         }
@@ -34,7 +34,7 @@ pub fn list(console: &Console, parts: &Parts, seat: u32) {
 }
 
 fn features(console: &Console, parts: &Parts, seat: u32) {
-    for i in 0..parts.sizes.len().min(16) {
+    for i in 0..parts.catalogue.sizes.len().min(16) {
         feature(console, parts, seat, i as u32);
     }
 }
@@ -59,7 +59,7 @@ fn feature(console: &Console, parts: &Parts, seat: u32, feature: u32) {
 
 // The build beside the option asked for.
 fn example(console: &Console, parts: &Parts, asked: Asked) {
-    let build = Spaced::entries(between(parts.example(asked), 0, parts.sizes.len()));
+    let build = Spaced::entries(between(parts.example(asked), 0, parts.catalogue.sizes.len()));
     print!(console; "; with {}:{build}", asked.option);
 }
 

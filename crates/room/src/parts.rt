@@ -1,5 +1,5 @@
 // The desk, and just as much of the lent memory as is in use: what the desk's calls get.
-use desk::{Changed, Desk, Left, Ran, Turned};
+use desk::{Catalogue, Changed, Desk, Left, Ran, Turned};
 use lines::commands::Change;
 use numbers::Refusal;
 use seat::Seat;
@@ -9,8 +9,7 @@ use shown::{Asked, Lengths};
 pub struct Parts<'a> {
     pub desk: Desk,
     pub board: &'a mut [u8],
-    pub sizes: &'a [u8],
-    pub rules: &'a [u16],
+    pub catalogue: Catalogue<'a>,
 }
 
 impl Parts<'_> {
@@ -20,31 +19,24 @@ impl Parts<'_> {
         let i = asked.feature as usize;
         let a = asked.option as usize;
         match change {
-            Change::Open => desk::open(self.board, self.sizes, self.rules),
-            Change::Enter => desk::enter(desk, self.board, self.sizes, self.rules, c),
-            Change::Leave => desk::leave(desk, self.board, self.sizes, self.rules, c),
-            Change::Choose => desk::choose(desk, self.board, self.sizes, self.rules, c, i, a),
-            Change::Relax => desk::relax(desk, self.board, self.sizes, self.rules, c, i),
+            Change::Open => desk::open(self.board, &self.catalogue),
+            Change::Enter => desk::enter(desk, self.board, &self.catalogue, c),
+            Change::Leave => desk::leave(desk, self.board, &self.catalogue, c),
+            Change::Choose => desk::choose(desk, self.board, &self.catalogue, c, i, a),
+            Change::Relax => desk::relax(desk, self.board, &self.catalogue, c, i),
         }
     }
 
     // The desk goes on from where the turns leave it.
     pub fn turn(&mut self, w: u16) -> Turned {
-        let turned = desk::turns(self.desk, self.board, self.sizes, self.rules, w);
+        let turned = desk::turns(self.desk, self.board, &self.catalogue, w);
         self.desk = turned.desk;
         turned
     }
 
     pub fn left(&self, seat: u32, feature: u32) -> Left {
         let i = feature as usize;
-        desk::options(
-            self.desk,
-            self.board,
-            self.sizes,
-            self.rules,
-            seat as usize,
-            i,
-        )
+        desk::options(self.desk, self.board, &self.catalogue, seat as usize, i)
     }
 
     // Why a seat's options can't be read now, if they can't. The desk answers 0 where they can, which is no refusal's number.
@@ -55,32 +47,32 @@ impl Parts<'_> {
     pub fn alternatives(&self, asked: Asked) -> Left {
         let c = asked.seat as usize;
         let i = asked.feature as usize;
-        desk::alternatives(self.desk, self.board, self.sizes, self.rules, c, i)
+        desk::alternatives(self.desk, self.board, &self.catalogue, c, i)
     }
 
     pub fn example_number(&self, asked: Asked) -> u8 {
         let c = asked.seat as usize;
         let i = asked.feature as usize;
         let a = asked.option as usize;
-        desk::example_number(self.desk, self.board, self.sizes, self.rules, c, i, a)
+        desk::example_number(self.desk, self.board, &self.catalogue, c, i, a)
     }
 
     pub fn example(&self, asked: Asked) -> &[u8] {
         let c = asked.seat as usize;
         let i = asked.feature as usize;
         let a = asked.option as usize;
-        desk::example(self.desk, self.board, self.sizes, self.rules, c, i, a)
+        desk::example(self.desk, self.board, &self.catalogue, c, i, a)
     }
 
     pub fn ran_into(&self, seat: u32) -> Ran {
-        desk::ran_into(self.desk, self.board, self.sizes, self.rules, seat as usize)
+        desk::ran_into(self.desk, self.board, &self.catalogue, seat as usize)
     }
 
     pub fn lengths(&self) -> Lengths {
         Lengths {
             board: self.board.len(),
-            sizes: self.sizes.len(),
-            rules: self.rules.len(),
+            sizes: self.catalogue.sizes.len(),
+            rules: self.catalogue.rules.len(),
         }
     }
 

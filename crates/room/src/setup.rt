@@ -1,7 +1,7 @@
 // The start state, and what sets catalogue and board.
 use crate::parts::in_use;
 use crate::{Lent, Room};
-use desk::Desk;
+use desk::{Catalogue, Desk};
 use lines::commands::Supply;
 use lines::{Console, at, byte, fill, put_rules, put_sizes, set_byte};
 
@@ -73,11 +73,11 @@ impl Room {
 fn are_good(console: &Console, room: Room, lent: &Lent) -> bool {
     let sizes = &*lent.sizes;
     let rules = &*lent.rules;
-    written::rules(
-        console,
-        in_use(sizes, room.sizes_count),
-        in_use(rules, room.rules_count),
-    )
+    let catalogue = Catalogue {
+        sizes: in_use(sizes, room.sizes_count),
+        rules: in_use(rules, room.rules_count),
+    };
+    written::rules(console, &catalogue)
 }
 
 // A new catalogue leaves the desk as it is, and one with a fault is not opened.

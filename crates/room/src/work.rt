@@ -85,7 +85,7 @@ impl Work {
         let record = parts.record(self.seat);
         if self.portions % 8 == 0 && is_at_work(record) {
             self.write_over(console);
-            pair(console, record, parts.sizes);
+            pair(console, record, parts.catalogue.sizes);
             println!(console; ", {} turns so far", self.turns);
             self.shown = true;
         }
@@ -105,13 +105,13 @@ impl Work {
         self.write_over(console);
         if is_at_work(record) {
             print!(console; "stopped: seat {seat} is at work: ");
-            pair(console, record, parts.sizes);
+            pair(console, record, parts.catalogue.sizes);
         } else {
             print!(console; "seat {seat} is ready");
         }
         println!(console; " after {}", Counted(self.turns, "turn"));
         if !is_at_work(record) {
-            no_product(console, record, parts.sizes);
+            no_product(console, record, parts.catalogue.sizes);
         }
     }
 }

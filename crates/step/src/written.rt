@@ -2,8 +2,6 @@
 ghost use Rattle.std.specs.Prelude.{◌≡◌, ℕ, ◌+◌, ◌<◌, ◌≤◌, length, get_or, set};
 ghost use Rattle.builds.specs.Catalogue.{rules_of};
 ghost use Rattle.builds.specs.Rule.{first_broken};
-ghost use Rattle.builds.specs.Fault.{fault_of};
-ghost use Rattle.builds.specs.Inner.Starts.{AllStarts};
 ghost use Rattle.placed.specs.Tested.{rule_broken};
 ghost use Rattle.search.specs.declared.State.TheVariants.{AtWork};
 ghost use Rattle.search.specs.Candidates.{chosen_otherwise};
@@ -89,9 +87,7 @@ fn step_at(seat: Seat, place: Place, share: &mut [u8], basis: &Basis) -> Seat
 // Rule 2: what is placed, the option to be tried at depth j with it, is tested against each rule whose highest-numbered
 // feature is j.
 fn tested_at(j: usize, placed: &[u8], basis: &Basis) -> Option<u8>
-    requires starts_known { (fault_of (catalogue_in basis.now) ≡ 0)
-        × AllStarts basis.now.rules.now basis.now.places.now basis.now.counts.now }
-    requires sixteen_placed { (j < 16) × (length placed.now ≡ 16) }
+    requires { (j < 16) × (length placed.now ≡ 16) }
     ensures { rule_broken result
         ≡ first_broken (rules_of (catalogue_in basis.now)) j placed.now }
 {
@@ -99,7 +95,7 @@ fn tested_at(j: usize, placed: &[u8], basis: &Basis) -> Option<u8>
     let starts = j * 64;
     let numbers = 16 + starts;
     placed::test(
-        basis.rules,
+        basis.accepted.catalogue.rules,
         j,
         &basis.places[starts..starts + count],
         &basis.counts[numbers..numbers + count],
@@ -131,7 +127,7 @@ fn after_step(
     share: &mut [u8],
     basis: &Basis,
 ) -> After
-    requires needs { TryNeeds (catalogue_in basis.now) place tested placed.now }
+    requires needs { TryNeeds basis.now place tested placed.now }
     requires whole_share { length share.old ≡ 4096 }
     ensures depth_in_reach { result.depth ≤ place.depth + 1 }
     ensures comes_to { ComesTo (catalogue_in basis.now) place
@@ -139,6 +135,7 @@ fn after_step(
 {
     let feature = place.feature;
     let option = place.option;
+    let sizes = basis.accepted.catalogue.sizes;
     let way = try_next(place, tested, choices, placed, basis);
     match way {
         Way::GoOn { depth, next } => {
@@ -156,14 +153,14 @@ fn after_step(
         }
         Way::Build => {
             if chosen_otherwise(choices, feature, option) {
-                return pair_ended(basis.sizes, choices, feature, option, Shown::Alternative);
+                return pair_ended(sizes, choices, feature, option, Shown::Alternative);
             }
             let i = feature as usize;
             let a = option as usize;
             write_example(share, i * 256 + a * 16, placed);
-            pair_ended(basis.sizes, choices, feature, option, Shown::Left)
+            pair_ended(sizes, choices, feature, option, Shown::Left)
         }
-        Way::Exhausted => pair_ended(basis.sizes, choices, feature, option, Shown::Nothing),
+        Way::Exhausted => pair_ended(sizes, choices, feature, option, Shown::Nothing),
     }
 }
 
@@ -188,7 +185,7 @@ fn try_next(
     placed: &[u8],
     basis: &Basis,
 ) -> Way
-    requires { TryNeeds (catalogue_in basis.now) place tested placed.now }
+    requires { TryNeeds basis.now place tested placed.now }
     ensures depth_in_reach { depth_in result ≤ place.depth + 1 }
     ensures tries { tried_of result placed.now
         ≡ tried (catalogue_in basis.now) choices.now place.feature
@@ -198,13 +195,14 @@ fn try_next(
     let option = place.option;
     let i = place.feature as usize;
     let j = depth as usize;
+    let sizes = basis.accepted.catalogue.sizes;
     if tested.is_some() {
-        return given_up(basis.sizes, choices, i, option, depth, placed);
+        return given_up(sizes, choices, i, option, depth, placed);
     }
-    if j + 1 == basis.sizes.len() {
+    if j + 1 == sizes.len() {
         return Way::Build;
     }
-    let first = first_candidate(basis.sizes, choices, i, option, j + 1);
+    let first = first_candidate(sizes, choices, i, option, j + 1);
     Way::GoOn {
         depth: depth + 1,
         next: first,

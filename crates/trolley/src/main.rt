@@ -2,6 +2,7 @@
 // feature 2 and is turned again; then it prints a line for each feature: its number, the options left, their count.
 #![tactic(auto)]
 
+use desk::Catalogue;
 use std::fmt::{Display, Formatter};
 use std::{fmt, io};
 
@@ -12,14 +13,18 @@ const RULES: [u16; 24] = [
 ];
 
 fn main(rt: HostRuntime) -> io::Result<()> {
+    let catalogue = Catalogue {
+        sizes: &SIZES,
+        rules: &RULES,
+    };
     let mut board = [0u8; 32768];
-    let opened = desk::open(&mut board, &SIZES, &RULES);
-    let entered = desk::enter(opened.desk, &mut board, &SIZES, &RULES, 3);
-    let ready = desk::turns(entered.desk, &mut board, &SIZES, &RULES, 65535);
-    let chosen = desk::choose(ready.desk, &mut board, &SIZES, &RULES, 3, 2, 0);
-    let again = desk::turns(chosen.desk, &mut board, &SIZES, &RULES, 65535);
+    let opened = desk::open(&mut board, &catalogue);
+    let entered = desk::enter(opened.desk, &mut board, &catalogue, 3);
+    let ready = desk::turns(entered.desk, &mut board, &catalogue, 65535);
+    let chosen = desk::choose(ready.desk, &mut board, &catalogue, 3, 2, 0);
+    let again = desk::turns(chosen.desk, &mut board, &catalogue, 65535);
     for i in 0..SIZES.len() {
-        let left = desk::options(again.desk, &board, &SIZES, &RULES, 3, i);
+        let left = desk::options(again.desk, &board, &catalogue, 3, i);
         let options = Options(left.mask);
         let count = left.count;
         println!(rt; "{i} {options} {count}")?;

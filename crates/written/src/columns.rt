@@ -2,11 +2,13 @@
 use crate::faults::fault;
 use crate::lists::Columns;
 use crate::met::{Met, arity, cut, features_and_rows, first_rule, meet, row_count};
+use catalogue::Catalogue;
 use lines::{Console, Counted};
 
 // The features, the rules that stand before the fault met first, and that fault.
-pub fn catalogue(console: &Console, sizes: &[u8], rules: &[u16]) {
-    let found = meet(sizes, rules);
+pub fn catalogue(console: &Console, catalogue: &Catalogue) {
+    let found = meet(catalogue);
+    let sizes = catalogue.sizes;
     let features = Counted(sizes.len() as u64, "feature");
     let whole = Counted(found.whole as u64, "rule");
     print!(console; "{features}, {whole}\nfeature ");
@@ -25,7 +27,7 @@ fn first_numbers(console: &Console, count: usize) {
 }
 
 fn first_rules(console: &Console, found: Met) {
-    let mut rest = found.rules;
+    let mut rest = found.catalogue.rules;
     for i in 0..found.whole {
         let (rule, after) = first_rule(rest);
         write_rule(console, i, rule);

@@ -1,6 +1,7 @@
 // The lines that answer new sizes and new rules: how many numbers, and what they make or which fault they have. Both answer
 // whether there is none.
 use crate::met::{Met, feature_met, first_rule, meet, row_met};
+use catalogue::Catalogue;
 use lines::{Console, Counted};
 use numbers::Refusal;
 use shown::{Asked, Lengths, Reason};
@@ -8,12 +9,17 @@ use shown::{Asked, Lengths, Reason};
 // The sizes are looked at alone, as if there were no rule.
 pub fn sizes(console: &Console, sizes: &[u8]) -> bool {
     count_of_numbers(console, sizes.len());
-    made_or_fault(console, meet(sizes, &[]), sizes.len(), "feature")
+    made_or_fault(
+        console,
+        meet(&Catalogue { sizes, rules: &[] }),
+        sizes.len(),
+        "feature",
+    )
 }
 
-pub fn rules(console: &Console, sizes: &[u8], rules: &[u16]) -> bool {
-    let found = meet(sizes, rules);
-    count_of_numbers(console, rules.len());
+pub fn rules(console: &Console, catalogue: &Catalogue) -> bool {
+    let found = meet(catalogue);
+    count_of_numbers(console, catalogue.rules.len());
     made_or_fault(console, found, found.whole, "rule")
 }
 
@@ -38,8 +44,8 @@ pub fn fault(console: &Console, refusal: Refusal, found: Met) {
         refusal,
         lengths: Lengths {
             board: 0,
-            sizes: found.sizes.len(),
-            rules: found.rules.len(),
+            sizes: found.catalogue.sizes.len(),
+            rules: found.catalogue.rules.len(),
         },
         asked: Asked {
             seat: 0,
@@ -54,7 +60,7 @@ fn place(console: &Console, refusal: Refusal, found: Met) {
     let rule = found.whole;
     match refusal {
         Refusal::SizeOutOfRange => {
-            let feature = feature_met(found.sizes);
+            let feature = feature_met(found.catalogue.sizes);
             print!(console; " in feature {feature}");
         }
         Refusal::RuleListEndsEarly
@@ -63,7 +69,7 @@ fn place(console: &Console, refusal: Refusal, found: Met) {
         | Refusal::RepeatedRuleFeature => print!(console; " in rule {rule}"),
         Refusal::RowOptionTooHigh => {
             let (broken, _) = first_rule(found.rest);
-            let row = row_met(found.sizes, broken);
+            let row = row_met(found.catalogue.sizes, broken);
             print!(console; " in rule {rule}, row {row}");
         }
         _ => {}

@@ -1,12 +1,13 @@
 // Lists of numbers, in a line as they can be given back or in columns.
+use catalogue::Catalogue;
 use lines::{Console, Spaced};
 use std::fmt;
 use std::fmt::{Display, Formatter};
 
 // The lines that give a catalogue back.
-pub fn numbers(console: &Console, sizes: &[u8], rules: &[u16]) {
-    let sizes = Spaced::all(sizes);
-    let rules = Spaced::all(rules);
+pub fn numbers(console: &Console, catalogue: &Catalogue) {
+    let sizes = Spaced::all(catalogue.sizes);
+    let rules = Spaced::all(catalogue.rules);
     println!(console; "sizes{sizes}\nrules{rules}");
 }
 

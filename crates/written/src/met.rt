@@ -2,6 +2,7 @@
 // caller has to show that it is so long.
 ghost use Rattle.std.specs.Prelude.{◌<◌};
 
+use catalogue::Catalogue;
 use lines::at;
 use numbers::Refusal;
 
@@ -9,8 +10,7 @@ use numbers::Refusal;
 // after them.
 #[derive(Clone, Copy)]
 pub struct Met<'a> {
-    pub sizes: &'a [u8],
-    pub rules: &'a [u16],
+    pub catalogue: Catalogue<'a>,
     pub fault: Option<Refusal>,
     pub whole: usize,
     pub rest: &'a [u16],
@@ -54,30 +54,29 @@ fn width(rule: &[u16]) -> usize {
 }
 
 // Of a list that is too long no rule is read.
-pub fn meet<'a>(sizes: &'a [u8], rules: &'a [u16]) -> Met<'a> {
-    let fault = catalogue::fault(sizes, rules).err();
+pub fn meet<'a>(catalogue: &Catalogue<'a>) -> Met<'a> {
+    let fault = catalogue.fault().err();
     let most = if fault == Some(Refusal::RuleListTooLong) {
         0
     } else {
         64
     };
-    let (whole, rest) = walk(sizes, rules, most);
+    let (whole, rest) = walk(catalogue, most);
     Met {
-        sizes,
-        rules,
+        catalogue: *catalogue,
         fault,
         whole,
         rest,
     }
 }
 
-// How many rules stand at the front of a list, up to so many, and what stands after them. Each rule is judged alone: it has
-// the fault that it has in the list.
-fn walk<'a>(sizes: &[u8], list: &'a [u16], most: usize) -> (usize, &'a [u16]) {
-    let mut rest = list;
+// How many rules stand at the front of the list, up to so many, and what stands after them. Each rule is judged alone: it
+// has the fault that it has in the list.
+fn walk<'a>(catalogue: &Catalogue<'a>, most: usize) -> (usize, &'a [u16]) {
+    let mut rest = catalogue.rules;
     for whole in 0..most {
         let (rule, after) = first_rule(rest);
-        if !stands(sizes, rule) {
+        if !stands(catalogue.sizes, rule) {
             return (whole, rest);
         }
         rest = after;
@@ -86,8 +85,8 @@ fn walk<'a>(sizes: &[u8], list: &'a [u16], most: usize) -> (usize, &'a [u16]) {
 }
 
 // Whether there is a rule, whole and without a fault.
-fn stands(sizes: &[u8], rule: &[u16]) -> bool {
-    !rule.is_empty() && catalogue::fault(sizes, rule).is_ok()
+fn stands(sizes: &[u8], rules: &[u16]) -> bool {
+    !rules.is_empty() && Catalogue { sizes, rules }.fault().is_ok()
 }
 
 // The first feature whose size is 0 or above 16.

@@ -1,6 +1,7 @@
 use mathlib.Core.Path.{sym, ap, ◌∙◌}
 use borrow.Author.Rules.{rules}
-use Rattle.builds.specs.Catalogue.{Catalogue, catalogue_of}
+use Rattle.builds.specs.Catalogue.{Catalogue}
+use Rattle.catalogue.specs.Lent.{catalogue_lent}
 use Rattle.runs.specs.Perform.{Outcome}
 use Rattle.runs.specs.Run.{after_calls}
 use Rattle.promises.specs.Moment.{moment}
@@ -15,7 +16,7 @@ loop-call-preserved c =
     record {
       four = step.0 ∙ loop.invariant.four;
       whole_board = search rules;
-      same_end = one_played (catalogue_of c.args.sizes.now c.args.rules.now) c.in-Some.call.now _ _ _ _ step.1.0
+      same_end = one_played (catalogue_lent c.args.catalogue.now) c.in-Some.call.now _ _ _ _ step.1.0
           (step.1.1 ∙ loop.invariant.four) c.one_call-desk.ensures
           ∙ loop.invariant.same_end;
     }
@@ -23,7 +24,7 @@ loop-call-preserved c =
 pub returns : goal.returns
 unfolding moment
 returns c =
-    let catalogue : Catalogue = catalogue_of c.args.sizes.now c.args.rules.now in
+    let catalogue : Catalogue = catalogue_lent c.args.catalogue.now in
     let opened = c.open-opened.ensures in
     let few = rw c.loop-call.invariant.four at c.in-None.ensures.steps.1.0 in record {
       run = sym (all_played catalogue _ _ few)

@@ -6,7 +6,7 @@ use native.Mathlib.Omega.{arith}
 use Rattle.builds.specs.Lists.{member}
 use Rattle.runs.specs.declared.Asking.TheVariants.{Read}
 use Rattle.runs.specs.declared.Reading.TheVariants.{Example}
-use Rattle.builds.specs.Catalogue.{catalogue_of}
+use Rattle.builds.specs.Catalogue.{Catalogue}
 use Rattle.runs.specs.declared.Desk.{Desk}
 use Rattle.runs.specs.Room.{seat_at, room_of}
 use Rattle.runs.specs.Call.{asks}
@@ -26,15 +26,15 @@ begins_nowhere board zero c i a refused = absurd (refused refl)
 begins_nowhere board (suc number) c i a refused = refl
 
 -- past the check the call is not refused
-module _ (sizes list board : List ℕ) (desk : Desk) (c i a : ℕ)
-    (fine : refusal (catalogue_of sizes list) (asks c (Read (Example i a))) (room_of desk board) ≡ 0) where
-  call_passed : AcceptedAsking (catalogue_of sizes list) c (Read (Example i a)) (room_of desk board)
+module _ (catalogue : Catalogue) (board : List ℕ) (desk : Desk) (c i a : ℕ)
+    (fine : refusal catalogue (asks c (Read (Example i a))) (room_of desk board) ≡ 0) where
+  call_passed : AcceptedAsking catalogue c (Read (Example i a)) (room_of desk board)
   call_passed = accepted _ _ _ _ fine
 
   bounds : (c < 8) × (i < 16) × (a < 16)
   unfolding member
   bounds =
-      let p = passed (31 ∷ 33 ∷ 34 ∷ 35 ∷ 37 ∷ []) sizes (seat_at desk c) i a call_passed.rows in
+      let p = passed (31 ∷ 33 ∷ 34 ∷ 35 ∷ 37 ∷ []) catalogue.sizes (seat_at desk c) i a call_passed.rows in
       let b = feature_bounds {i = i} call_passed.checks.faultless (p.feature_below refl) in
       (call_passed.seat_below, b.feature_below_16, omega (arith, p.option_below refl, b.size_at_most_16))
 
@@ -50,45 +50,45 @@ returns-then-is_err c =
 pub overflow_mul-from-2 : goal.overflow_mul-from-2
 overflow_mul-from-2 c =
     let fine = not_refused _ c.args.c _ _ c.seat_read.result c.seat_read.ensures (sym c.is_err.ensures.value ∙ c.if-is_err.false) in
-    let b = bounds c.args.sizes.now c.args.rules.now c.args.board.now c.args.desk c.args.c c.args.i c.args.a fine in
+    let b = bounds _ c.args.board.now c.args.desk c.args.c c.args.i c.args.a fine in
     omega arith
 
 pub overflow_add-from : goal.overflow_add-from
 overflow_add-from c =
     let fine = not_refused _ c.args.c _ _ c.seat_read.result c.seat_read.ensures (sym c.is_err.ensures.value ∙ c.if-is_err.false) in
-    let b = bounds c.args.sizes.now c.args.rules.now c.args.board.now c.args.desk c.args.c c.args.i c.args.a fine in
+    let b = bounds _ c.args.board.now c.args.desk c.args.c c.args.i c.args.a fine in
     omega arith
 
 pub overflow_mul-from-3 : goal.overflow_mul-from-3
 overflow_mul-from-3 c =
     let fine = not_refused _ c.args.c _ _ c.seat_read.result c.seat_read.ensures (sym c.is_err.ensures.value ∙ c.if-is_err.false) in
-    let b = bounds c.args.sizes.now c.args.rules.now c.args.board.now c.args.desk c.args.c c.args.i c.args.a fine in
+    let b = bounds _ c.args.board.now c.args.desk c.args.c c.args.i c.args.a fine in
     omega arith
 
 pub overflow_add-from-2 : goal.overflow_add-from-2
 overflow_add-from-2 c =
     let fine = not_refused _ c.args.c _ _ c.seat_read.result c.seat_read.ensures (sym c.is_err.ensures.value ∙ c.if-is_err.false) in
-    let b = bounds c.args.sizes.now c.args.rules.now c.args.board.now c.args.desk c.args.c c.args.i c.args.a fine in
+    let b = bounds _ c.args.board.now c.args.desk c.args.c c.args.i c.args.a fine in
     omega arith
 
 pub overflow_add-to : goal.overflow_add-to
 overflow_add-to c =
     let fine = not_refused _ c.args.c _ _ c.seat_read.result c.seat_read.ensures (sym c.is_err.ensures.value ∙ c.if-is_err.false) in
-    let b = bounds c.args.sizes.now c.args.rules.now c.args.board.now c.args.desk c.args.c c.args.i c.args.a fine in
+    let b = bounds _ c.args.board.now c.args.desk c.args.c c.args.i c.args.a fine in
     omega arith
 
 pub slice_bounds-result-end-2 : goal.slice_bounds-result-end-2
 slice_bounds-result-end-2 c =
     let fine = not_refused _ c.args.c _ _ c.seat_read.result c.seat_read.ensures (sym c.is_err.ensures.value ∙ c.if-is_err.false) in
-    let b = bounds c.args.sizes.now c.args.rules.now c.args.board.now c.args.desk c.args.c c.args.i c.args.a fine in
-    omega (arith, (call_passed c.args.sizes.now c.args.rules.now c.args.board.now c.args.desk c.args.c c.args.i c.args.a fine).checks.board_length)
+    let b = bounds _ c.args.board.now c.args.desk c.args.c c.args.i c.args.a fine in
+    omega (arith, (call_passed _ c.args.board.now c.args.desk c.args.c c.args.i c.args.a fine).checks.board_length)
 
 pub returns : goal.returns
 unfolding done
 returns c =
     let fine = not_refused _ c.args.c _ _ c.seat_read.result c.seat_read.ensures (sym c.is_err.ensures.value ∙ c.if-is_err.false) in
-    let b = bounds c.args.sizes.now c.args.rules.now c.args.board.now c.args.desk c.args.c c.args.i c.args.a fine in
-    let whole = (call_passed c.args.sizes.now c.args.rules.now c.args.board.now c.args.desk c.args.c c.args.i c.args.a fine).checks.board_length in
+    let b = bounds _ c.args.board.now c.args.desk c.args.c c.args.i c.args.a fine in
+    let whole = (call_passed _ c.args.board.now c.args.desk c.args.c c.args.i c.args.a fine).checks.board_length in
     let from : ℕ = c.args.c * 4096 + c.args.i * 256 + c.args.a * 16 in
     let sixteen : from + 16 - from ≡ 16 = omega arith in
     let same = sym (perform_accepted _ _ _ fine) in record {

@@ -1,9 +1,8 @@
 -- The enums of the code as the definitions have them, and what its functions need and say; no promise cites this file.
 use Rattle.std.specs.Prelude.{ℕ, ◌≡◌, Bool, true, false, Option, List, length, get_or}
-use Rattle.builds.specs.Catalogue.{Catalogue, catalogue_of, rules_of}
+use Rattle.builds.specs.Catalogue.{Catalogue, rules_of}
 use Rattle.builds.specs.Rule.{first_broken}
-use Rattle.builds.specs.Fault.{fault_of}
-use Rattle.builds.specs.Inner.Starts.{AllStarts}
+use Rattle.catalogue.specs.Lent.{catalogue_lent}
 use Rattle.placed.specs.Tested.{rule_broken}
 use Rattle.search.specs.declared.Seat.{Seat}
 use Rattle.search.specs.declared.Place.{Place}
@@ -15,7 +14,7 @@ use Rattle.step.specs.declared.written.Way.{Way}
 use Rattle.step.specs.declared.written.Way.TheVariants.{GoOn, Build, Exhausted}
 use Rattle.search.specs.Clinic.{Clinic, clinic_of, seat_with}
 use Rattle.search.specs.RecordFits.{place_fits, seat_fits}
-use Rattle.search.specs.Inner.Placed.{kept_before, PlacedAt, edge_bytes, masks_with}
+use Rattle.search.specs.Inner.Placed.{kept_before, PlacedAt, masks_with}
 use Rattle.search.specs.Step.{Tried, go_on, build, exhausted, search_at, step}
 
 abbrev pub tried_of : Way → List ℕ → Tried
@@ -32,27 +31,23 @@ depth_in Exhausted = 0
 -- ---- a step
 
 abbrev pub catalogue_in : Basis → Catalogue
-catalogue_in basis = catalogue_of basis.sizes.now basis.rules.now
+catalogue_in basis = catalogue_lent basis.accepted.catalogue
 
--- what a step needs: a catalogue without a fault, a record that fits it, a share, where the rules begin, and the edge
+-- what a step needs beside its basis: a record that fits the catalogue, and a share
 pub record StepNeeds (basis : Basis) (seat : Seat) (share : List ℕ) : Type 0 where
-  pub no_fault : fault_of (catalogue_in basis) ≡ 0
   pub fits : seat_fits (catalogue_in basis) seat ≡ true
   pub whole_share : length share ≡ 4096
-  pub starts : AllStarts basis.rules.now basis.places.now basis.counts.now
-  pub the_edge : basis.edge.now ≡ edge_bytes
 
 -- what it leaves: record and share of the written search, one step on
 abbrev pub Stepped : Catalogue → Clinic → Clinic → Type 0
 Stepped catalogue before after = after ≡ step catalogue before
 
 -- what trying an option needs, by what its test came to
-pub record TryNeeds (catalogue : Catalogue) (place : Place) (tested : Option ℕ) (placed : List ℕ) : Type 0 where
-  pub no_fault : fault_of catalogue ≡ 0
-  pub within : place_fits catalogue place ≡ true
+pub record TryNeeds (basis : Basis) (place : Place) (tested : Option ℕ) (placed : List ℕ) : Type 0 where
+  pub within : place_fits (catalogue_in basis) place ≡ true
   pub placed_so : PlacedAt place.depth placed
   pub tried : get_or placed place.depth 255 ≡ place.next
-  pub is_tested : rule_broken tested ≡ first_broken (rules_of catalogue) place.depth placed
+  pub is_tested : rule_broken tested ≡ first_broken (rules_of (catalogue_in basis)) place.depth placed
 
 -- which of the two masks gets the option's bit
 abbrev pub shows_left : Shown → Bool

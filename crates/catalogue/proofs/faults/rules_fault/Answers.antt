@@ -48,19 +48,19 @@ lies_whole sizes list none same =
 pub returns-then-is_empty : goal.returns-then-is_empty
 returns-then-is_empty c =
     let loop = c.loop-passed in
-    sym (loop.invariant.1 ∙ ends c.args.sizes.now loop.rest.now _ (is_none loop.rest.now c.is_empty.ensures c.if-is_empty.true))
+    sym (loop.invariant.1 ∙ ends c.args.catalogue.now.sizes.now loop.rest.now _ (is_none loop.rest.now c.is_empty.ensures c.if-is_empty.true))
 
 pub returns-in_err-rule_fault : goal.returns-in_err-rule_fault
 returns-in_err-rule_fault c =
     let loop = c.loop-passed in
     let p = err_from_is_err_and c.from_residual.result c.from_residual.ensures.1 in
     rw (p.1, p.2)
-    (stops c.args.sizes.now loop.rest.now (64 - loop.passed) (63 - loop.passed) _ (omega arith)
+    (stops c.args.catalogue.now.sizes.now loop.rest.now (64 - loop.passed) (63 - loop.passed) _ (omega arith)
     (is_some loop.rest.now c.is_empty.ensures c.if-is_empty.false) c.in_err-rule_fault.ensures ∙ sym loop.invariant.1)
 
 pub rule_width-requires : goal.rule_width-requires
 rule_width-requires c =
-    let whole = rule_fault_zero c.args.sizes.now c.loop-passed.rest.now (sym c.in_ok-rule_fault.ensures) in
+    let whole = rule_fault_zero c.args.catalogue.now.sizes.now c.loop-passed.rest.now (sym c.in_ok-rule_fault.ensures) in
     (whole.has_header, whole.arity_high)
 
 pub slice_bounds-rest-count : goal.slice_bounds-rest-count
@@ -71,7 +71,7 @@ slice_bounds-rest-start c = lies_whole _ c.loop-passed.rest.now c.in_ok-rule_fau
 
 pub offset_bounds-rest-rule_width : goal.offset_bounds-rest-rule_width
 offset_bounds-rest-rule_width c =
-    omega (arith, lies_whole c.args.sizes.now c.loop-passed.rest.now c.in_ok-rule_fault.ensures c.rule_width.ensures, c.well_formed)
+    omega (arith, lies_whole c.args.catalogue.now.sizes.now c.loop-passed.rest.now c.in_ok-rule_fault.ensures c.rule_width.ensures)
 
 pub loop-passed-preserved : goal.loop-passed-preserved
 loop-passed-preserved c =
@@ -80,7 +80,7 @@ loop-passed-preserved c =
     rw left_lent (
       simp length-drop (omega arith),
       loop.invariant.1
-          ∙ goes_on c.args.sizes.now loop.rest.now (64 - loop.passed) (63 - loop.passed) (omega arith)
+          ∙ goes_on c.args.catalogue.now.sizes.now loop.rest.now (64 - loop.passed) (63 - loop.passed) (omega arith)
           (is_some loop.rest.now c.is_empty.ensures c.if-is_empty.false) c.in_ok-rule_fault.ensures
           ∙ rw (fewer, c.rule_width.ensures),
     )
@@ -88,9 +88,9 @@ loop-passed-preserved c =
 pub returns-then-is_empty-2 : goal.returns-then-is_empty-2
 returns-then-is_empty-2 c =
     let loop = c.loop-passed in
-    sym (loop.invariant.1 ∙ ends c.args.sizes.now loop.rest.now _ (is_none loop.rest.now c.is_empty-2.ensures c.if-is_empty-2.true))
+    sym (loop.invariant.1 ∙ ends c.args.catalogue.now.sizes.now loop.rest.now _ (is_none loop.rest.now c.is_empty-2.ensures c.if-is_empty-2.true))
 
 pub returns-else-is_empty-2 : goal.returns-else-is_empty-2
 returns-else-is_empty-2 c =
     let loop = c.loop-passed in
-    sym (loop.invariant.1 ∙ too_many c.args.sizes.now loop.rest.now _ (omega arith) (is_some loop.rest.now c.is_empty-2.ensures c.if-is_empty-2.false))
+    sym (loop.invariant.1 ∙ too_many c.args.catalogue.now.sizes.now loop.rest.now _ (omega arith) (is_some loop.rest.now c.is_empty-2.ensures c.if-is_empty-2.false))

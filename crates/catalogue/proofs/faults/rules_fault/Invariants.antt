@@ -7,4 +7,6 @@ use Rattle.builds.specs.Fault.{rules_fault}
 use Rattle.catalogue.proofs.faults.rules_fault.Given as goal
 
 abbrev pub invariant-loop-passed : goal.invariant-loop-passed
-invariant-loop-passed l = (length l.rest ≤ length l.rules) × (rules_fault 64 l.sizes l.rules ≡ rules_fault (64 - l.passed) l.sizes l.rest)
+invariant-loop-passed l =
+    let sizes = l.catalogue.sizes.now in let rules = l.catalogue.rules.now in
+    (length l.rest ≤ length rules) × (rules_fault 64 sizes rules ≡ rules_fault (64 - l.passed) sizes l.rest)

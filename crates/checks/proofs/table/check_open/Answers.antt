@@ -6,10 +6,10 @@ use Rattle.builds.proofs.ListWalks.{last_row}
 use Rattle.runs.specs.RefusalTable.{open_refusal}
 use Rattle.checks.proofs.table.check_open.Goals as goal
 
-pub returns-then-board_length-ne32768 : goal.returns-then-board_length-ne32768
+pub returns-then-board_length-ne32768-clause-told : goal.returns-then-board_length-ne32768-clause-told
 unfolding open_refusal
-returns-then-board_length-ne32768 c board same_length = rw (ne_eqb (length board) 32768 (λ e. c.if-board_length-ne32768.true (sym same_length ∙ e)))
+returns-then-board_length-ne32768-clause-told c board same_length = rw (ne_eqb (length board) 32768 (λ e. c.if-board_length-ne32768.true (sym same_length ∙ e)))
 
-pub returns : goal.returns
+pub returns-clause-told : goal.returns-clause-told
 unfolding open_refusal
-returns c board same_length = rw (eq-eqb (length board) 32768 (same_length ∙ c.if-board_length-ne32768.false)) (c.fault.ensures ∙ sym (last_row _))
+returns-clause-told c board same_length = rw (eq-eqb (length board) 32768 (same_length ∙ c.if-board_length-ne32768.false)) (c.accepted.ensures.fault_told ∙ sym (last_row _))

@@ -12,6 +12,7 @@ use Rattle.std.proofs.lemmas.Iterator.Search.{all_from_yields_List}
 use Rattle.std.proofs.lemmas.Bool.Decides.{same_from_decides}
 use Rattle.std.proofs.lemmas.List.Recursion.{and_at, and_from_places}
 use Rattle.builds.specs.Lists.{every_below}
+use Rattle.catalogue.specs.Lent.{catalogue_lent}
 use Rattle.search.specs.Clinic.{no_seat}
 use Rattle.search.specs.declared.Seat.{Seat}
 use Rattle.search.specs.RecordFits.{seat_fits}
@@ -36,7 +37,7 @@ by_index test seats =
 pub returns-then-desk-le7 : goal.returns-then-desk-le7
 unfolding desk_fits
 returns-then-desk-le7 c =
-    let fits = seat_fits (record { sizes = c.args.sizes.now; list = c.args.rules.now }) in
+    let fits = seat_fits (catalogue_lent c.args.accepted.now.catalogue) in
     let eight : length c.args.desk.seats ≡ 8 = omega arith in
     rw (le-leb _ 7 c.if-desk-le7.true)
     (all_from_yields_List fits _ _ c.all.result c.all.ensures.ran (YieldsList-from_slice c.args.desk.seats cc) (λ x b q k. search rules)

@@ -23,4 +23,4 @@ none_fits sizes choices alternatives none =
 pub returns-then-none_set : goal.returns-then-none_set
 returns-then-none_set c =
     let a = c.args in
-    c.if-none_set.true ∙ sym (none_fits a.sizes.now a.choices.now a.alternatives.now (sym c.none_set.ensures ∙ c.if-none_set.true))
+    c.if-none_set.true ∙ sym (none_fits a.accepted.now.catalogue.sizes.now a.choices.now a.alternatives.now (sym c.none_set.ensures ∙ c.if-none_set.true))

@@ -9,8 +9,8 @@ use borrow.Author.Tests.{eqb-true, eqb-false, lt-ltb, le-ltb}
 use lib.ListN.{get_or}
 use lib.Dec.{eqb, ltb}
 use lib.Pow.{pow_pos}
-use Rattle.builds.specs.Catalogue.{catalogue_of, Catalogue, rules_of}
-use Rattle.builds.proofs.Faultless.{fault_zero, fault_whole}
+use Rattle.builds.specs.Catalogue.{Catalogue}
+use Rattle.catalogue.specs.Lent.{catalogue_lent}
 use Rattle.search.specs.declared.Seat.{Seat}
 use Rattle.search.specs.declared.State.{State}
 use Rattle.search.specs.declared.State.TheVariants.{Closed, Ready, AtWork}
@@ -115,38 +115,25 @@ closed_whole : (catalogue : Catalogue) (seat : Seat) → seat.state ≡ Closed �
 closed_whole catalogue seat at rule_fits true e = sym (closed_left catalogue seat at rule_fits e)
 closed_whole catalogue seat at rule_fits false e = sym (state_off catalogue seat Closed at e)
 
-pub broken_fits-requires : goal.broken_fits-requires
-broken_fits-requires c = fault_whole (catalogue_of c.args.sizes.now c.args.rules.now) c.requires
-
 pub returns-then-not-broken_fits : goal.returns-then-not-broken_fits
-unfolding rules_of
 returns-then-not-broken_fits c =
-    sym (rule_off (catalogue_of c.args.sizes.now c.args.rules.now) c.args.seat (sym c.broken_fits.ensures ∙ c.if-not-broken_fits.true))
-
-pub open_fits-requires : goal.open_fits-requires
-open_fits-requires c = (fault_zero (catalogue_of c.args.sizes.now c.args.rules.now) c.requires).sizes_fit
-
-pub open_fits-requires-then-place_fits : goal.open_fits-requires-then-place_fits
-open_fits-requires-then-place_fits c = (fault_zero (catalogue_of c.args.sizes.now c.args.rules.now) c.requires).sizes_fit
+    sym (rule_off (catalogue_lent c.args.accepted.now.catalogue) c.args.seat (sym c.broken_fits.ensures ∙ c.if-not-broken_fits.true))
 
 pub returns-in-Closed : goal.returns-in-Closed
-unfolding rules_of
 returns-in-Closed c =
     c.closed_fits.ensures
-    ∙ closed_whole (catalogue_of c.args.sizes.now c.args.rules.now) c.args.seat c.in-Closed.is
+    ∙ closed_whole (catalogue_lent c.args.accepted.now.catalogue) c.args.seat c.in-Closed.is
     (sym c.broken_fits.ensures ∙ c.if-not-broken_fits.false) _ refl
 
 pub returns-in-Ready : goal.returns-in-Ready
-unfolding rules_of
 returns-in-Ready c =
     c.open_fits.ensures
-    ∙ sym (state_on (catalogue_of c.args.sizes.now c.args.rules.now) c.args.seat Ready c.in-Ready.is
+    ∙ sym (state_on (catalogue_lent c.args.accepted.now.catalogue) c.args.seat Ready c.in-Ready.is
     (sym c.broken_fits.ensures ∙ c.if-not-broken_fits.false) refl)
 
 pub returns-then-place_fits : goal.returns-then-place_fits
-unfolding rules_of
 returns-then-place_fits c =
-    let catalogue = catalogue_of c.args.sizes.now c.args.rules.now in
+    let catalogue = catalogue_lent c.args.accepted.now.catalogue in
     let depth : c.from.result ≡ c.in-AtWork.place.depth = c.from.ensures in
     (rw depth at c.open_fits-then-place_fits.ensures)
     ∙ sym (state_on catalogue c.args.seat (AtWork c.in-AtWork.place) c.in-AtWork.is
@@ -155,5 +142,5 @@ returns-then-place_fits c =
 pub returns-else-place_fits : goal.returns-else-place_fits
 returns-else-place_fits c =
     c.if-place_fits.false
-    ∙ sym (state_off (catalogue_of c.args.sizes.now c.args.rules.now) c.args.seat (AtWork c.in-AtWork.place) c.in-AtWork.is
+    ∙ sym (state_off (catalogue_lent c.args.accepted.now.catalogue) c.args.seat (AtWork c.in-AtWork.place) c.in-AtWork.is
     (sym c.place_fits.ensures ∙ c.if-place_fits.false))

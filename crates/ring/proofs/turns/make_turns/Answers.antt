@@ -7,10 +7,11 @@ use mathlib.Core.Option.{some}
 use native.Mathlib.Omega.{arith}
 use borrow.Author.Rules.{rules}
 use lib.ListN.{length, set, length-replicate}
-use Rattle.builds.specs.Catalogue.{Catalogue, catalogue_of}
+use Rattle.builds.specs.Catalogue.{Catalogue}
 use Rattle.builds.proofs.Faultless.{fault_zero, fault_whole}
 use Rattle.builds.specs.Lists.{put}
 use Rattle.builds.specs.Fault.{fault_of}
+use Rattle.catalogue.specs.Lent.{catalogue_lent}
 use Rattle.search.specs.declared.Seat.{Seat}
 use Rattle.search.specs.Clinic.{clinic_of}
 use Rattle.search.specs.Step.{step}
@@ -38,19 +39,19 @@ turned_so now fault left l found seat share same mark is = rw is at (turn_made n
 
 pub starts_of-requires : goal.starts_of-requires
 starts_of-requires c =
-    let catalogue : Catalogue = catalogue_of c.args.sizes.now c.args.rules.now in record {
-      rules_whole = (fault_whole catalogue c.requires.sound.1, (fault_zero catalogue c.requires.sound.1).list_fits);
+    let catalogue : Catalogue = catalogue_lent c.args.accepted.now.catalogue in record {
+      rules_whole = (fault_whole catalogue c.args.accepted.now.faultless, (fault_zero catalogue c.args.accepted.now.faultless).list_fits);
       room_for_starts = (length-replicate {A = ℕ} 1024 0, refl);
     }
 
 pub loop-made-init : goal.loop-made-init
 loop-made-init c =
-    let catalogue : Catalogue = catalogue_of c.args.sizes.now c.args.rules.now in
+    let catalogue : Catalogue = catalogue_lent c.args.accepted.now.catalogue in
     let first : Room = room_of c.args.desk c.args.board.now in
     let eight = eight_seats_lem c.args.desk _ c.well_formed.0 in
     let sixteen = sixteen_each c.args.desk _ c.well_formed.0 in
     record {
-      sound = fits_sound catalogue first eight c.requires.sound.0 sixteen c.requires.fits;
+      sound = fits_sound catalogue first eight c.requires.whole_board sixteen c.requires.fits;
       so_far = none_made catalogue c.args.w first;
       marked = c.seats_at_work-working.ensures;
     }
@@ -84,7 +85,7 @@ loop-made-preserved-then-is_at_work c =
     let full : length share ≡ 4096 = c.stepped-seat.auto.share ∙ lent_length l.board c.in-Some.c l.invariant.sound.board_length below in
     let same = rw (lent_is l.board c.in-Some.c) at c.stepped-seat.ensures in
     let at_work : is_at_work c.stepped-seat.result.state ≡ true = sym c.is_at_work.ensures ∙ c.if-is_at_work.true in
-    let made = turned_so l.invariant c.requires.sound.1 c.loop-made-test.true c.in-Some.c found c.stepped-seat.result share same true at_work in
+    let made = turned_so l.invariant c.args.accepted.now.faultless c.loop-made-test.true c.in-Some.c found c.stepped-seat.result share same true at_work in
     rw (back_is l.board c.in-Some.c share full) (rw (still_marked l.invariant c.in-Some.c found) at made)
 
 pub loop-made-preserved : goal.loop-made-preserved
@@ -97,7 +98,7 @@ loop-made-preserved c =
     let full : length share ≡ 4096 = c.stepped-seat.auto.share ∙ lent_length l.board c.in-Some.c l.invariant.sound.board_length below in
     let same = rw (lent_is l.board c.in-Some.c) at c.stepped-seat.ensures in
     let idle : is_at_work c.stepped-seat.result.state ≡ false = sym c.is_at_work.ensures ∙ c.if-is_at_work.false in
-    let made = turned_so l.invariant c.requires.sound.1 c.loop-made-test.true c.in-Some.c found c.stepped-seat.result share same false idle in
+    let made = turned_so l.invariant c.args.accepted.now.faultless c.loop-made-test.true c.in-Some.c found c.stepped-seat.result share same false idle in
     rw (c.with_mark-working.ensures, back_is l.board c.in-Some.c share full) made
 
 -- the call is done where nobody is at work, and where all its turns are made

@@ -3,7 +3,7 @@
 -- where its job has ended, and stays where it has not.
 use Prim.Native.Nat.{ℕ}
 use mathlib.Core.List.{List}
-use Rattle.builds.specs.Catalogue.{catalogue_of}
+use Rattle.catalogue.specs.Lent.{catalogue_lent}
 use Rattle.search.specs.declared.Seat.{Seat}
 use Rattle.ring.specs.Inner.Marks.{marks_of}
 use Rattle.runs.specs.Room.{Room, room_of}
@@ -14,4 +14,4 @@ abbrev pub room : List Seat → ℕ → List ℕ → Room
 room seats next board = room_of (record { seats = seats; next = next }) board
 
 abbrev pub invariant-loop-made : goal.invariant-loop-made
-invariant-loop-made l = Turning (catalogue_of l.sizes l.rules) l.w (room l.initial.seats l.initial.next l.initial.board) l.made (marks_of l.working) (room l.seats l.next l.board)
+invariant-loop-made l = Turning (catalogue_lent l.accepted.catalogue) l.w (room l.initial.seats l.initial.next l.initial.board) l.made (marks_of l.working) (room l.seats l.next l.board)

@@ -45,17 +45,13 @@ bounds-placed-j c = shallow c.requires.needs c.requires.at_work
 pub tested_at-tested-requires : goal.tested_at-tested-requires
 tested_at-tested-requires c =
     let sixteen : length c.args.seat.trial ≡ 16 = search rules in
-    record {
-      starts_known = (c.requires.needs.no_fault, c.requires.needs.starts);
-      sixteen_placed = (shallow c.requires.needs c.requires.at_work, length-set c.args.seat.trial c.args.place.depth c.args.place.next ∙ sixteen);
-    }
+    (shallow c.requires.needs c.requires.at_work, length-set c.args.seat.trial c.args.place.depth c.args.place.next ∙ sixteen)
 
 pub after_step-after-requires : goal.after_step-after-requires
 after_step-after-requires c =
     let sixteen : length c.args.seat.trial ≡ 16 = search rules in
     record {
       needs = record {
-        no_fault = c.requires.needs.no_fault;
         within = fits_place (place_fits c.requires.needs c.requires.at_work);
         placed_so = placed_so c.requires.needs c.requires.at_work sixteen;
         tried = tried_there c.requires.needs c.requires.at_work sixteen;
@@ -71,7 +67,7 @@ pub trial_after-requires : goal.trial_after-requires
 trial_after-requires c =
     let sixteen : length c.args.seat.trial ≡ 16 = search rules in
     record {
-      depth_within = (shallow c.requires.needs c.requires.at_work, c.after_step-after.ensures.depth_in_reach, c.requires.needs.the_edge);
+      depth_within = (shallow c.requires.needs c.requires.at_work, c.after_step-after.ensures.depth_in_reach, c.args.basis.now.the_edge);
       entries = (
         nothing_from_depth c.requires.needs c.requires.at_work sixteen c.args.place.depth (omega arith),
         trial_bytes c.requires.needs c.requires.at_work sixteen,

@@ -14,12 +14,12 @@ test-requires c =
     let span : c.args.j * 64 + c.from-count.result - c.args.j * 64 ≡ c.from-count.result = omega arith in
     let span-2 : 16 + c.args.j * 64 + c.from-count.result - (16 + c.args.j * 64) ≡ c.from-count.result = omega arith in
     record {
-      rules_whole = fault_whole catalogue c.requires.starts_known.0;
+      rules_whole = fault_whole catalogue c.args.basis.now.accepted.faultless;
       starts_known = (
-        rw (span, c.from-count.ensures) (c.requires.starts_known.1.are_starts c.args.j c.requires.sixteen_placed.0),
-        rw (span-2, c.from-count.ensures) (c.requires.starts_known.1.are_numbers c.args.j c.requires.sixteen_placed.0),
+        rw (span, c.from-count.ensures) (c.args.basis.now.starts.are_starts c.args.j c.requires.0),
+        rw (span-2, c.from-count.ensures) (c.args.basis.now.starts.are_numbers c.args.j c.requires.0),
       );
-      features_below = rw c.requires.sixteen_placed.1 (fault_below catalogue c.requires.starts_known.0);
+      features_below = rw c.requires.1 (fault_below catalogue c.args.basis.now.accepted.faultless);
     }
 
 pub returns : goal.returns

@@ -43,21 +43,21 @@ returns-then-is_some c =
       tries = rw (again, test_failed, ← c.requires.tried) c.given_up.ensures.gives_up;
     }
 
-pub returns-then-j-basis : goal.returns-then-j-basis
+pub returns-then-j-sizes : goal.returns-then-j-sizes
 unfolding tried passes
-returns-then-j-basis c =
+returns-then-j-sizes c =
     let again : set (kept_before c.args.place.depth c.args.placed.now) c.args.place.depth c.args.place.next ≡ c.args.placed.now = placed_again c.requires.placed_so (depth_below_16 c.requires) c.args.place.next c.requires.tried in
     let test_is : is_none (rule_broken c.args.tested) ≡ (passes (rules_of (catalogue_in c.args.basis.now)) c.args.place.depth c.args.placed.now) = ap is_none c.requires.is_tested in
     let test_passed : (passes (rules_of (catalogue_in c.args.basis.now)) c.args.place.depth c.args.placed.now) ≡ true = sym test_is ∙ passed_told c.args.tested (sym c.is_some.ensures ∙ c.if-is_some.false) in
     record {
       depth_in_reach = omega arith;
-      tries = rw (again, test_passed, eq-eqb (c.args.place.depth + 1) (length c.args.basis.now.sizes.now) c.if-j-basis.true) refl;
+      tries = rw (again, test_passed, eq-eqb (c.args.place.depth + 1) (length c.args.basis.now.accepted.catalogue.sizes.now) c.if-j-sizes.true) refl;
     }
 
 pub first_candidate-first-requires : goal.first_candidate-first-requires
 first_candidate-first-requires c =
-    let next_depth : c.args.place.depth + 1 < length c.args.basis.now.sizes.now = omega (arith, (tried_fits c.requires).depth_below, c.if-j-basis.false) in
-    let size = size_within (catalogue_in c.args.basis.now) c.requires.no_fault (c.args.place.depth + 1) next_depth in
+    let next_depth : c.args.place.depth + 1 < length c.args.basis.now.accepted.catalogue.sizes.now = omega (arith, (tried_fits c.requires).depth_below, c.if-j-sizes.false) in
+    let size = size_within (catalogue_in c.args.basis.now) c.args.basis.now.accepted.faultless (c.args.place.depth + 1) next_depth in
     let choices_long : length c.args.choices.now ≡ 16 = search rules in
     (choices_long, omega (arith, next_depth, few_features c.requires), size.0)
 
@@ -69,6 +69,6 @@ returns c =
     let test_passed : (passes (rules_of (catalogue_in c.args.basis.now)) c.args.place.depth c.args.placed.now) ≡ true = sym test_is ∙ passed_told c.args.tested (sym c.is_some.ensures ∙ c.if-is_some.false) in
     record {
       depth_in_reach = omega arith;
-      tries = rw (again, test_passed, ne_eqb (c.args.place.depth + 1) (length c.args.basis.now.sizes.now) c.if-j-basis.false, ← (kept_whole c.requires.placed_so (depth_below_16 c.requires)), c.first_candidate-first.ensures)
+      tries = rw (again, test_passed, ne_eqb (c.args.place.depth + 1) (length c.args.basis.now.accepted.catalogue.sizes.now) c.if-j-sizes.false, ← (kept_whole c.requires.placed_so (depth_below_16 c.requires)), c.first_candidate-first.ensures)
           refl;
     }

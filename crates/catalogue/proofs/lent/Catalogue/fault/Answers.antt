@@ -1,4 +1,4 @@
--- `faults::fault`: each exit is a row of the definition's table, reached with the rows above it answered 0.
+-- `Catalogue::fault`: each exit is a row of the definition's table, reached with the rows above it answered 0.
 use Prim.Native.Nat.{ℕ, ◌≤◌, ◌<◌}
 use mathlib.Core.Path.{◌≡◌, sym, ap, ◌∙◌}
 use mathlib.Core.List.{List}
@@ -11,8 +11,8 @@ use Rattle.numbers.specs.Refusal.{number_of}
 use Rattle.builds.specs.Fault.{fault_of, sizes_fault, rules_fault}
 use Rattle.builds.proofs.ListWalks.{last_row}
 use Rattle.catalogue.proofs.Walks.{is_none, is_some, refused_first}
-use Rattle.catalogue.proofs.faults.fault.Goals as goal
-use Rattle.catalogue.proofs.faults.fault.Goals.{then-is_empty-via-then-is_empty, then-is_empty-via-else-is_empty+then-sizes-gt16}
+use Rattle.catalogue.proofs.lent.Catalogue.fault.Goals as goal
+use Rattle.catalogue.proofs.lent.Catalogue.fault.Goals.{then-is_empty-via-then-is_empty, then-is_empty-via-else-is_empty+then-self-gt16}
 
 module _ (sizes list : List ℕ) where
   no_feature : length sizes ≡ 0 → fault_of (record { sizes = sizes; list = list }) ≡ 10
@@ -43,30 +43,30 @@ module _ (sizes list : List ℕ) where
 
 pub returns-then-is_empty : goal.returns-then-is_empty
 returns-then-is_empty c =
-    let sizes = c.args.sizes.now in
+    let sizes = c.args.self.now.sizes.now in
     elim c.then-is_empty.branch [
-      | then-is_empty-via-then-is_empty w ↦ sym (no_feature sizes c.args.rules.now (ap length (is_none sizes c.is_empty.ensures w.if-is_empty.true)))
-      | then-is_empty-via-else-is_empty+then-sizes-gt16 w ↦ sym (many_features sizes c.args.rules.now w.if-sizes-gt16.true)
+      | then-is_empty-via-then-is_empty w ↦ sym (no_feature sizes c.args.self.now.rules.now (ap length (is_none sizes c.is_empty.ensures w.if-is_empty.true)))
+      | then-is_empty-via-else-is_empty+then-self-gt16 w ↦ sym (many_features sizes c.args.self.now.rules.now w.if-self-gt16.true)
     ]
 
 pub returns-in_err-sizes_fault : goal.returns-in_err-sizes_fault
 returns-in_err-sizes_fault c =
     let p = err_from_is_err_and c.from_residual.result c.from_residual.ensures.1 in
-    let sizes = c.args.sizes.now in
+    let sizes = c.args.self.now.sizes.now in
     rw (p.1, p.2)
-    (bad_size sizes c.args.rules.now (is_some sizes c.is_empty.ensures c.if-is_empty.false) c.if-sizes-gt16.false _ c.in_err-sizes_fault.ensures)
+    (bad_size sizes c.args.self.now.rules.now (is_some sizes c.is_empty.ensures c.if-is_empty.false) c.if-self-gt16.false _ c.in_err-sizes_fault.ensures)
 
-pub returns-then-rules-gt8192 : goal.returns-then-rules-gt8192
-returns-then-rules-gt8192 c =
-    let sizes = c.args.sizes.now in
+pub returns-then-self-gt8192 : goal.returns-then-self-gt8192
+returns-then-self-gt8192 c =
+    let sizes = c.args.self.now.sizes.now in
     sym
-    (long_list sizes c.args.rules.now (is_some sizes c.is_empty.ensures c.if-is_empty.false) c.if-sizes-gt16.false
-    (sym c.in_ok-sizes_fault.ensures) c.if-rules-gt8192.true)
+    (long_list sizes c.args.self.now.rules.now (is_some sizes c.is_empty.ensures c.if-is_empty.false) c.if-self-gt16.false
+    (sym c.in_ok-sizes_fault.ensures) c.if-self-gt8192.true)
 
 pub returns : goal.returns
 returns c =
-    let sizes = c.args.sizes.now in
+    let sizes = c.args.self.now.sizes.now in
     c.rules_fault.ensures
     ∙ sym
-    (rules_left sizes c.args.rules.now (is_some sizes c.is_empty.ensures c.if-is_empty.false) c.if-sizes-gt16.false
-    (sym c.in_ok-sizes_fault.ensures) c.if-rules-gt8192.false)
+    (rules_left sizes c.args.self.now.rules.now (is_some sizes c.is_empty.ensures c.if-is_empty.false) c.if-self-gt16.false
+    (sym c.in_ok-sizes_fault.ensures) c.if-self-gt8192.false)
