@@ -69,13 +69,7 @@ pub fn choose(
 }
 
 // Drops one choice.
-pub fn relax(
-    desk: Desk,
-    board: &mut [u8],
-    catalogue: &Catalogue,
-    c: usize,
-    i: usize,
-) -> Changed
+pub fn relax(desk: Desk, board: &mut [u8], catalogue: &Catalogue, c: usize, i: usize) -> Changed
     ensures { ChangesTo
         (perform (catalogue_lent catalogue.now) (asks c (Relax i)) (room_of desk board.old))
         result board.new }
@@ -84,13 +78,7 @@ pub fn relax(
 }
 
 // An asking that has no more to say than its number. Accepted, it leaves its seat another record and share.
-fn ask(
-    desk: Desk,
-    board: &mut [u8],
-    catalogue: &Catalogue,
-    c: usize,
-    asking: Asking,
-) -> Changed
+fn ask(desk: Desk, board: &mut [u8], catalogue: &Catalogue, c: usize, asking: Asking) -> Changed
     requires { (choices : List ℕ) (clinic : Clinic) → answer_by (kind_of asking choices) clinic ≡ plain }
     ensures { ChangesTo
         (perform (catalogue_lent catalogue.now) (asks c asking) (room_of desk board.old))

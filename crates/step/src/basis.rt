@@ -1,8 +1,8 @@
 // What a step reads, the same for each step of a call.
 use catalogue::Catalogue;
 
-// The catalogue; where the rules begin that are tested at each feature, and how many they are, with
-// their numbers; and the edge that the trial is cut by.
+// The catalogue; where the rules begin that are tested at each feature, and how many they are, with their numbers; and the
+// edge that the trial is cut by.
 #[derive(Clone, Copy)]
 pub struct Basis<'a> {
     pub catalogue: Catalogue<'a>,

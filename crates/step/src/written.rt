@@ -137,6 +137,7 @@ fn after_step(
     ensures comes_to { ComesTo (catalogue_in basis.now) place
         choices.now placed.now share.old result share.new }
 {
+    let sizes = basis.catalogue.sizes;
     let feature = place.feature;
     let option = place.option;
     let way = try_next(place, tested, choices, placed, basis);
@@ -156,14 +157,14 @@ fn after_step(
         }
         Way::Build => {
             if chosen_otherwise(choices, feature, option) {
-                return pair_ended(basis.catalogue.sizes, choices, feature, option, Shown::Alternative);
+                return pair_ended(sizes, choices, feature, option, Shown::Alternative);
             }
             let i = feature as usize;
             let a = option as usize;
             write_example(share, i * 256 + a * 16, placed);
-            pair_ended(basis.catalogue.sizes, choices, feature, option, Shown::Left)
+            pair_ended(sizes, choices, feature, option, Shown::Left)
         }
-        Way::Exhausted => pair_ended(basis.catalogue.sizes, choices, feature, option, Shown::Nothing),
+        Way::Exhausted => pair_ended(sizes, choices, feature, option, Shown::Nothing),
     }
 }
 
