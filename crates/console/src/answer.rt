@@ -1,6 +1,6 @@
 // One line and its answer.
 use lines::commands::{Command, Form, Supply, command_of, takes, write_form};
-use lines::{Console, Stretch, at, between, end_of, first, read_numbers, report_number, text};
+use lines::{Console, Stretch, at, between, end_of, read_numbers, report_number, text};
 use room::{Lent, Room};
 
 // What has become of a script's lines.
@@ -29,16 +29,20 @@ impl Sitting<'_> {
         match read(console, self.room, line, &mut numbers) {
             Line::Nothing => {}
             Line::Unknown => {
-                text(console, b"not understood; help lists the commands\n");
+                println!(console; "not understood; help lists the commands");
                 self.miss(console);
             }
             Line::Misused(form) => {
-                text(console, b"not understood; write: ");
+                print!(console; "not understood; write: ");
                 write_form(console, form);
-                text(console, b"\n");
+                println!(console);
                 self.miss(console);
             }
-            Line::Command(command, count) => self.obey(console, command, first(&numbers, count)),
+            Line::Command(command, count) => self.obey(
+                console,
+                command,
+                between(&numbers, 0, count),
+            ),
         }
     }
 
@@ -73,7 +77,7 @@ fn read(console: &Console, room: Room, line: &[u8], numbers: &mut [u32]) -> Line
     }
     if words[from] == b'#' {
         text(console, words);
-        text(console, b"\n");
+        println!(console);
         return Line::Nothing;
     }
     let to = end_of(words, from, Stretch::Word);
@@ -87,7 +91,7 @@ fn read_command(room: Room, form: Form, rest: &[u8], numbers: &mut [u32]) -> Lin
     let Some(count) = read_numbers(rest, numbers) else {
         return Line::Misused(form);
     };
-    let given = first(numbers, count);
+    let given = between(numbers, 0, count);
     if takes(form, given) && has_place(room, form.command, at(given, 0) as usize, count) {
         return Line::Command(form.command, count);
     }

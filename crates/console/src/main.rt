@@ -45,20 +45,20 @@ fn argument(rt: &HostRuntime, console: &Console, i: usize) -> bool {
 }
 
 fn file(rt: &HostRuntime, console: &Console, name: &[u8]) {
-    text(console, b"script ");
+    print!(console; "script ");
     text(console, name);
     if name == b"-".as_slice() {
-        text(console, b"\n");
+        println!(console);
         input(rt, console);
         return;
     }
     match opened(rt, name) {
         Some(mut from) => {
-            text(console, b"\n");
+            println!(console);
             script(console, &mut from, false);
         }
         None => {
-            text(console, b" can't be read\n");
+            println!(console; " can't be read");
             report(console, b"unread\n");
         }
     }

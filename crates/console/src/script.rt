@@ -1,16 +1,16 @@
 // A script: lines read to the end of a file, each answered as soon as it is whole.
 use crate::answer::Sitting;
-use lines::{Console, LONGEST, TYPED, append, around, between, read_some, report_number, text};
+use lines::{Console, TYPED, append, between, read_some, report_number};
 use room::{Lent, Room};
 use shown::help;
 use std::io::Read;
 
-// The line so far.
-// Stays: no heap, so it is a count of what is lent.
+// The line so far; None once it is too long.
+// Stays: no heap, so its length is a count of what is lent.
 #[derive(Drop)]
 struct Unfinished<'a> {
     line: &'a mut [u8],
-    length: usize, // LONGEST + 1 for any that is too long
+    length: Option<usize>,
 }
 
 pub fn script<R: Read>(console: &Console, from: &mut R, watched: bool) {
@@ -36,10 +36,10 @@ pub fn script<R: Read>(console: &Console, from: &mut R, watched: bool) {
     };
     sitting.read_all(console, from);
     if watched && !sitting.ended {
-        text(console, b"\n");
+        println!(console);
     }
-    around(console, b"end: ", sitting.answered, b" answered, ");
-    around(console, b"", sitting.not_understood, b" not understood\n");
+    print!(console; "end: {} answered, ", sitting.answered);
+    println!(console; "{} not understood", sitting.not_understood);
     report_number(console, b"end ", sitting.not_understood);
 }
 
@@ -49,7 +49,7 @@ impl Sitting<'_> {
         let mut line = [0u8; 65536];
         let mut unfinished = Unfinished {
             line: &mut line,
-            length: 0,
+            length: Some(0),
         };
         self.read_chunks(console, from, &mut unfinished);
         self.end_line(console, &mut unfinished);
@@ -69,9 +69,9 @@ impl Sitting<'_> {
     }
 
     // A person is asked for each line.
-    fn prompt(&self, console: &Console, length: usize) {
-        if length == 0 && self.room.watched {
-            text(console, b"> ");
+    fn prompt(&self, console: &Console, length: Option<usize>) {
+        if length == Some(0) && self.room.watched {
+            print!(console; "> ");
         }
     }
 
@@ -79,8 +79,9 @@ impl Sitting<'_> {
     fn feed(&mut self, console: &Console, line: &mut Unfinished, bytes: &[u8]) {
         for piece in bytes.split_inclusive(|byte| *byte == b'\n') {
             let whole = piece.strip_suffix(b"\n");
-            let length = line.length;
-            line.length = append(line.line, length, whole.unwrap_or(piece));
+            if let Some(length) = line.length {
+                line.length = append(line.line, length, whole.unwrap_or(piece));
+            }
             if whole.is_some() {
                 self.end_line(console, line);
             }
@@ -92,19 +93,19 @@ impl Sitting<'_> {
 
     fn end_line(&mut self, console: &Console, line: &mut Unfinished) {
         let length = line.length;
-        line.length = 0;
+        line.length = Some(0);
         self.lines = self.lines.wrapping_add(1);
-        if LONGEST < length {
-            text(console, b"not understood; a line has at most 65536 bytes\n");
-            self.miss(console);
-        } else if self.room.watched && TYPED <= length {
-            text(
-                console,
-                b"not understood; a terminal cuts a line after 4095 bytes: use more, or a script\n",
-            );
-            self.miss(console);
-        } else {
-            self.answer(console, between(line.line, 0, length));
+        match length {
+            None => {
+                println!(console; "not understood; a line has at most 65536 bytes");
+                self.miss(console);
+            }
+            Some(length) if self.room.watched && TYPED <= length => {
+                print!(console; "not understood; a terminal cuts a line after 4095 bytes: ");
+                println!(console; "use more, or a script");
+                self.miss(console);
+            }
+            Some(length) => self.answer(console, between(line.line, 0, length)),
         }
     }
 }

@@ -1,5 +1,5 @@
 // The commands: their words, their forms, and which numbers each takes.
-ghost use Rattle.std.specs.Prelude.{◌↔◌, ◌<◌, IsOk};
+ghost use Rattle.lines.specs.Command.{Tells};
 
 use crate::console::Console;
 use crate::reading::{Stretch, between, end_of};
@@ -161,8 +161,9 @@ pub struct NoCommand(pub usize);
 impl TryFrom<usize> for Command {
     type Error = NoCommand;
 
-    ghost try_from_gives = { λ number found. IsOk found ↔ number < 36 };
+    ghost try_from_gives = { Tells };
 
+    #[tactic(auto, using(crate::proofs::Command::looked_up))]
     fn try_from(number: usize) -> Result<Self, NoCommand> {
         COMMANDS.get(number).copied().ok_or(NoCommand(number))
     }

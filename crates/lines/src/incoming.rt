@@ -1,10 +1,10 @@
 // A line as it comes in.
+ghost use Rattle.std.specs.Prelude.{◌≡◌, ◌+◌, ◌<◌, IsSome, MatchOption, length};
+ghost use Rattle.std.specs.List.{splice};
+
 use crate::console::Console;
-use crate::lent::put;
 use crate::writing::report;
 use std::io::{IsTerminal, Read};
-
-pub const LONGEST: usize = 65536;
 
 // The most that a terminal hands over of one line; it drops the rest without a word.
 pub const TYPED: usize = 4095;
@@ -35,11 +35,17 @@ pub fn is_person(console: &Console) -> bool {
     console.input.is_terminal() && console.output.is_terminal()
 }
 
-// Bytes put to the end of a line; answers its length.
-pub fn append(line: &mut [u8], length: usize, bytes: &[u8]) -> usize {
-    let to = put(line, length, bytes, |byte| byte);
-    if to - length < bytes.len() {
-        return LONGEST + 1;
+// Bytes put to the end of a line; answers its length, None where there is no room for all of them.
+pub fn append(line: &mut [u8], filled: usize, bytes: &[u8]) -> Option<usize>
+    ensures longer { MatchOption result (length line.old < filled + length bytes.now)
+        (λ to. to ≡ filled + length bytes.now) }
+    ensures written { IsSome result
+        → line.new ≡ splice line.old filled (filled + length bytes.now) bytes.now }
+{
+    let to = filled.checked_add(bytes.len())?;
+    if line.len() < to {
+        return None;
     }
-    to
+    line[filled..to].copy_from_slice(bytes);
+    Some(to)
 }

@@ -25,22 +25,17 @@ pub fn put_rules(rules: &mut [u16], from: usize, numbers: &[u32]) -> usize {
     put(rules, from, numbers, two_bytes)
 }
 
-// Puts items into a list from a place on, as many as there is room for; answers the place after them.
-pub(crate) fn put<S: Copy, T: Copy, F: Fn(S) -> T>(
-    list: &mut [T],
-    from: usize,
-    items: &[S],
-    as_entry: F,
-) -> usize
+// Puts numbers into a list from a place on, as many as there is room for; answers the place after them.
+fn put<T: Copy, F: Fn(u32) -> T>(list: &mut [T], from: usize, numbers: &[u32], as_entry: F) -> usize
     requires { F.IsAlwaysCallable as_entry }
     ensures { from ≤ result }
 {
     let Some(room) = list.get_mut(from..) else {
         return from;
     };
-    let count = items.len().min(room.len());
-    for (entry, item) in room.iter_mut().zip(items) {
-        *entry = as_entry(*item);
+    let count = numbers.len().min(room.len());
+    for (entry, number) in room.iter_mut().zip(numbers) {
+        *entry = as_entry(*number);
     }
     from + count
 }

@@ -2,10 +2,8 @@
 use crate::parts::Parts;
 use desk::Left;
 use lines::commands::{Change, Question};
-use lines::{Console, around, entries, text};
-use shown::{
-    Asked, Lengths, accepted, beside, option_of_feature, options_of, refused, rule_met, turns_made,
-};
+use lines::{Console, Spaced, two_bytes};
+use shown::{Asked, Lengths, accepted, beside, options_of, refused, rule_met, turns_made};
 
 // A refused open hands back a closed desk, which is not kept; any other call the desk as it came.
 pub fn change(console: &Console, parts: &mut Parts, change: Change, asked: Asked) {
@@ -15,7 +13,7 @@ pub fn change(console: &Console, parts: &mut Parts, change: Change, asked: Asked
         accepted(console, change, asked);
     } else {
         refused(console, changed.number, parts.lengths(), asked);
-        text(console, b"\n");
+        println!(console);
     }
 }
 
@@ -23,11 +21,11 @@ pub fn question(console: &Console, parts: &Parts, question: Question, asked: Ask
     match question {
         Question::Options => {
             let left = parts.left(asked.seat, asked.feature);
-            mask_answered(console, left, parts.lengths(), asked, b" left");
+            mask_answered(console, left, parts.lengths(), asked, " left");
         }
         Question::Alternatives => {
             let others = parts.alternatives(asked);
-            mask_answered(console, others, parts.lengths(), asked, b" alternatives");
+            mask_answered(console, others, parts.lengths(), asked, " alternatives");
         }
         Question::Example => example(console, parts, asked),
         Question::RanInto => ran_into(console, parts, asked),
@@ -35,7 +33,7 @@ pub fn question(console: &Console, parts: &Parts, question: Question, asked: Ask
 }
 
 pub fn turns(console: &Console, parts: &mut Parts, asked: Asked) {
-    let turned = parts.turn((asked.seat % 65536) as u16);
+    let turned = parts.turn(two_bytes(asked.seat));
     if turned.number == 0 {
         turns_made(console, turned.made, turned.working);
     } else {
@@ -44,29 +42,29 @@ pub fn turns(console: &Console, parts: &mut Parts, asked: Asked) {
             beside(console, turned.made, turned.working);
         }
     }
-    text(console, b"\n");
+    println!(console);
 }
 
 // A refusal answers no mask; were there one, it would be seen.
-fn mask_answered(console: &Console, left: Left, lengths: Lengths, asked: Asked, what: &[u8]) {
+fn mask_answered(console: &Console, left: Left, lengths: Lengths, asked: Asked, what: &str) {
     if left.number == 0 {
         options_of_feature(console, left, asked.feature, what);
     } else {
         refused(console, left.number, lengths, asked);
         if left.mask != 0 || left.count != 0 {
-            text(console, b"; ");
+            print!(console; "; ");
             options_of_feature(console, left, asked.feature, what);
         }
     }
-    text(console, b"\n");
+    println!(console);
 }
 
 // How many options of a feature, what they are, and which.
-pub fn options_of_feature(console: &Console, left: Left, feature: u32, what: &[u8]) {
-    around(console, b"feature ", feature as u64, b": ");
-    around(console, b"", left.count as u64, what);
+pub fn options_of_feature(console: &Console, left: Left, feature: u32, what: &str) {
+    let count = left.count;
+    print!(console; "feature {feature}: {count}{what}");
     if left.mask != 0 {
-        text(console, b":");
+        print!(console; ":");
         options_of(console, left.mask);
     }
 }
@@ -74,12 +72,11 @@ pub fn options_of_feature(console: &Console, left: Left, feature: u32, what: &[u
 fn example(console: &Console, parts: &Parts, asked: Asked) {
     let refusal = parts.example_number(asked);
     if refusal == 0 {
-        option_of_feature(console, asked, b":");
+        print!(console; "option {} of feature {}:", asked.option, asked.feature);
     } else {
         refused(console, refusal, parts.lengths(), asked);
     }
-    entries(console, parts.example(asked));
-    text(console, b"\n");
+    println!(console; "{}", Spaced::entries(parts.example(asked)));
 }
 
 // A refusal answers rule 0; were it another, it would be seen.
@@ -90,9 +87,9 @@ pub fn ran_into(console: &Console, parts: &Parts, asked: Asked) {
     } else {
         refused(console, ran.number, parts.lengths(), asked);
         if ran.rule != 0 {
-            text(console, b"; ");
+            print!(console; "; ");
             rule_met(console, asked.seat, ran.rule);
         }
     }
-    text(console, b"\n");
+    println!(console);
 }

@@ -1,9 +1,9 @@
 // What each command does.
-use crate::parts::{Parts, in_use};
+use crate::parts::Parts;
 use crate::{Lent, Room, calls, digest, fields, list, showing, work};
-use desk::{Catalogue, Desk};
+use desk::Desk;
 use lines::commands::{Command, View};
-use lines::{Console, at, byte, text};
+use lines::{Console, at, byte};
 use shown::{Asked, help};
 
 impl Room {
@@ -37,10 +37,7 @@ fn answer(
     let mut parts = Parts {
         desk: room.desk,
         board: &mut board[..length],
-        catalogue: Catalogue {
-            sizes: in_use(sizes, room.sizes_count),
-            rules: in_use(rules, room.rules_count),
-        },
+        catalogue: room.catalogue(sizes, rules),
     };
     perform(console, &mut parts, command, numbers, room.watched);
     parts.desk
@@ -60,11 +57,11 @@ fn perform(console: &Console, parts: &mut Parts, command: Command, numbers: &[u3
         Command::Work => work::make_ready(console, parts, asked, watched),
         Command::SetNext => {
             parts.desk.next = byte(asked.seat);
-            text(console, b"set\n");
+            println!(console; "set");
         }
         Command::SetSeat(field) => {
             fields::set(&mut parts.desk, field, numbers);
-            text(console, b"set\n");
+            println!(console; "set");
         }
         Command::View(view) => show(console, parts, view, asked.seat),
         Command::Supply(_) | Command::Quit | Command::Exit => {}

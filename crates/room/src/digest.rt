@@ -1,13 +1,11 @@
 // A number that tells two desks or boards apart: sixteen hexadecimal digits.
 use desk::Desk;
-use lines::{Console, hexadecimal, text};
+use lines::Console;
 use shown::digest::{fold, of_seat};
 
 pub fn digest(console: &Console, desk: Desk, board: &[u8]) {
     let with_desk = fold(of_seats(desk), &[desk.next]);
-    text(console, b"digest ");
-    hexadecimal(console, fold(with_desk, board));
-    text(console, b"\n");
+    println!(console; "digest {:016x}", fold(with_desk, board));
 }
 
 fn of_seats(desk: Desk) -> u64 {

@@ -1,7 +1,7 @@
 // The fields of a seat's record, set by hand to anything.
 use desk::Desk;
 use lines::commands::Field;
-use lines::{at, byte};
+use lines::{at, byte, two_bytes};
 use seat::{Place, Seat, State};
 
 // A seat that is not there is left out, and so is a feature.
@@ -45,5 +45,5 @@ fn entry(numbers: &[u32]) -> u8 {
 }
 
 fn mask(numbers: &[u32]) -> u16 {
-    (at(numbers, 2) % 65536) as u16
+    two_bytes(at(numbers, 2))
 }

@@ -1,10 +1,11 @@
 // What a seat shows, for people.
 use crate::calls::{options_of_feature, ran_into};
 use crate::parts::Parts;
-use crate::work::{AT_WORK, no_product};
+use crate::work::no_product;
 use desk::Desk;
-use lines::{Console, around, between, entries, text};
-use shown::{Asked, named_at_work, options_of, pair, refused};
+use lines::{Console, Spaced, between};
+use numbers::Refusal;
+use shown::{Asked, options_of, pair, refused};
 
 pub fn list(console: &Console, parts: &Parts, seat: u32) {
     let asked = Asked {
@@ -12,21 +13,21 @@ pub fn list(console: &Console, parts: &Parts, seat: u32) {
         feature: 0,
         option: 0,
     };
-    match parts.left(seat, 0).number {
-        0 => {
-            around(console, b"seat ", seat as u64, b" is ready\n");
+    match parts.unreadable(seat) {
+        None => {
+            println!(console; "seat {seat} is ready");
             no_product(console, parts.record(seat), parts.catalogue.sizes);
             features(console, parts, seat);
         }
-        AT_WORK => {
-            around(console, b"seat ", seat as u64, b" is at work: ");
+        Some(Refusal::SeatAtWork) => {
+            print!(console; "seat {seat} is at work: ");
             pair(console, parts.record(seat), parts.catalogue.sizes);
-            text(console, b"\n");
+            println!(console);
             ran_into(console, parts, asked);
         }
-        refusal => {
-            refused(console, refusal, parts.lengths(), asked);
-            text(console, b"\n");
+        Some(refusal) => {
+            refused(console, refusal.number(), parts.lengths(), asked);
+            println!(console);
         }
     }
     at_work(console, parts.desk);
@@ -41,7 +42,7 @@ fn features(console: &Console, parts: &Parts, seat: u32) {
 // Asks with the least option left.
 fn feature(console: &Console, parts: &Parts, seat: u32, feature: u32) {
     let left = parts.left(seat, feature);
-    options_of_feature(console, left, feature, b" left");
+    options_of_feature(console, left, feature, " left");
     let asked = Asked {
         seat,
         feature,
@@ -53,33 +54,30 @@ fn feature(console: &Console, parts: &Parts, seat: u32, feature: u32) {
     if look::has_choice(parts.record(seat), feature as usize) {
         chosen(console, parts, asked);
     }
-    text(console, b"\n");
+    println!(console);
 }
 
 // The build beside the option asked for.
 fn example(console: &Console, parts: &Parts, asked: Asked) {
-    around(console, b"; with ", asked.option as u64, b":");
-    entries(
-        console,
-        between(parts.example(asked), 0, parts.catalogue.sizes.len()),
-    );
+    let build = Spaced::entries(between(parts.example(asked), 0, parts.catalogue.sizes.len()));
+    print!(console; "; with {}:{build}", asked.option);
 }
 
 // What could stand there instead.
 fn chosen(console: &Console, parts: &Parts, asked: Asked) {
-    text(console, b"; chosen; alternatives:");
+    print!(console; "; chosen; alternatives:");
     options_of(console, parts.alternatives(asked).mask);
 }
 
 // The seats at work, rising.
 fn at_work(console: &Console, desk: Desk) {
-    text(console, b"at work:");
-    let mut count = 0;
+    print!(console; "at work:");
+    let mut none = true;
     for (c, seat) in desk.seats.iter().enumerate() {
-        count += named_at_work(console, *seat, c);
+        if look::is_at_work(*seat) {
+            print!(console; " {c}");
+            none = false;
+        }
     }
-    if count == 0 {
-        text(console, b" none");
-    }
-    text(console, b"\n");
+    println!(console; "{}", if none { " none" } else { "" });
 }

@@ -1,6 +1,8 @@
 // The desk, and just as much of the lent memory as is in use: what the desk's calls get.
+use crate::Room;
 use desk::{Catalogue, Changed, Desk, Left, Ran, Turned};
 use lines::commands::Change;
+use numbers::Refusal;
 use seat::Seat;
 use shown::{Asked, Lengths};
 
@@ -38,6 +40,11 @@ impl Parts<'_> {
         desk::options(self.desk, self.board, &self.catalogue, seat as usize, i)
     }
 
+    // Why a seat's options can't be read now, if they can't. The desk answers 0 where they can, which is no refusal's number.
+    pub fn unreadable(&self, seat: u32) -> Option<Refusal> {
+        Refusal::try_from(self.left(seat, 0).number).ok()
+    }
+
     pub fn alternatives(&self, asked: Asked) -> Left {
         let c = asked.seat as usize;
         let i = asked.feature as usize;
@@ -73,6 +80,16 @@ impl Parts<'_> {
     // Of a seat that a call has found to be there.
     pub fn record(&self, seat: u32) -> Seat {
         self.desk.seats[(seat % 8) as usize]
+    }
+}
+
+impl Room {
+    // As much of the two lists as is in use.
+    pub(crate) fn catalogue<'a>(&self, sizes: &'a [u8], rules: &'a [u16]) -> Catalogue<'a> {
+        Catalogue {
+            sizes: in_use(sizes, self.sizes_count),
+            rules: in_use(rules, self.rules_count),
+        }
     }
 }
 

@@ -1,9 +1,9 @@
 // The start state, and what sets catalogue and board.
 use crate::parts::in_use;
 use crate::{Lent, Room};
-use desk::{Catalogue, Desk};
+use desk::Desk;
 use lines::commands::Supply;
-use lines::{Console, around, at, byte, fill, put_rules, put_sizes, set_byte, text};
+use lines::{Console, at, byte, fill, put_rules, put_sizes, set_byte};
 
 // Stays: the program trolley has this catalogue too, as the desk takes it, and here it is as a line gives it. A crate that
 // both stand on would be no plainer than these three lines.
@@ -38,7 +38,7 @@ impl Room {
     ) {
         match supply {
             Supply::Trolley => {
-                text(console, b"the trolley, eight seats closed\n");
+                println!(console; "the trolley, eight seats closed");
                 *self = Room::trolley(lent, self.watched);
             }
             Supply::Sizes => self.set_sizes(console, lent, numbers),
@@ -65,8 +65,7 @@ impl Room {
     fn set_board(&mut self, console: &Console, lent: &mut Lent, length: u32, value: u32) {
         self.board_length = length as usize;
         fill(lent.board, self.board_length, byte(value));
-        around(console, b"board: ", length as u64, b" bytes of ");
-        around(console, b"", value as u64, b"\n");
+        println!(console; "board: {length} bytes of {value}");
     }
 }
 
@@ -74,11 +73,7 @@ impl Room {
 fn are_good(console: &Console, room: Room, lent: &Lent) -> bool {
     let sizes = &*lent.sizes;
     let rules = &*lent.rules;
-    let catalogue = Catalogue {
-        sizes: in_use(sizes, room.sizes_count),
-        rules: in_use(rules, room.rules_count),
-    };
-    written::rules(console, &catalogue)
+    written::rules(console, &room.catalogue(sizes, rules))
 }
 
 // A new catalogue leaves the desk as it is, and one with a fault is not opened.
@@ -86,9 +81,9 @@ fn say_open(console: &Console, desk: Desk, good: bool) {
     if desk.seats.iter().all(|seat| look::is_closed(*seat)) {
         return;
     }
-    text(console, b"seats are still open on the old catalogue; ");
+    print!(console; "seats are still open on the old catalogue; ");
     if !good {
-        text(console, b"mend the fault, then ");
+        print!(console; "mend the fault, then ");
     }
-    text(console, b"open begins anew\n");
+    println!(console; "open begins anew");
 }

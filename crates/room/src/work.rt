@@ -1,15 +1,13 @@
 // Turns in portions until a seat is ready.
 use crate::parts::Parts;
-use lines::{Console, around, asked_to_stop, counted, report, text};
+use lines::{Console, Counted, asked_to_stop, report};
 use look::is_at_work;
+use numbers::Refusal;
 use seat::Seat;
 use shown::{Asked, nothing_left, pair, refused};
 
 // The most turns that one call makes.
 const PORTION: u16 = 65535;
-
-// The number that refuses to read a seat at work.
-pub const AT_WORK: u8 = 33;
 
 // The work for one seat so far.
 #[derive(Clone, Copy)]
@@ -22,11 +20,13 @@ struct Work {
 }
 
 pub fn make_ready(console: &Console, parts: &mut Parts, asked: Asked, watched: bool) {
-    let refusal = parts.left(asked.seat, 0).number;
-    if refusal != 0 && refusal != AT_WORK {
-        refused(console, refusal, parts.lengths(), asked);
-        text(console, b"\n");
-        return;
+    match parts.unreadable(asked.seat) {
+        None | Some(Refusal::SeatAtWork) => {}
+        Some(refusal) => {
+            refused(console, refusal.number(), parts.lengths(), asked);
+            println!(console);
+            return;
+        }
     }
     let mut work = Work {
         seat: asked.seat,
@@ -86,7 +86,7 @@ impl Work {
         if self.portions % 8 == 0 && is_at_work(record) {
             self.write_over(console);
             pair(console, record, parts.catalogue.sizes);
-            around(console, b", ", self.turns, b" turns so far\n");
+            println!(console; ", {} turns so far", self.turns);
             self.shown = true;
         }
     }
@@ -95,23 +95,21 @@ impl Work {
     // erased.
     fn write_over(&self, console: &Console) {
         if self.shown {
-            text(console, b"\x1b[A\r\x1b[J");
+            print!(console; "\x1b[A\r\x1b[J");
         }
     }
 
     fn end(&self, console: &Console, parts: &Parts) {
         let record = parts.record(self.seat);
-        let seat = self.seat as u64;
+        let seat = self.seat;
         self.write_over(console);
         if is_at_work(record) {
-            around(console, b"stopped: seat ", seat, b" is at work: ");
+            print!(console; "stopped: seat {seat} is at work: ");
             pair(console, record, parts.catalogue.sizes);
         } else {
-            around(console, b"seat ", seat, b" is ready");
+            print!(console; "seat {seat} is ready");
         }
-        text(console, b" after ");
-        counted(console, self.turns, b"turn");
-        text(console, b"\n");
+        println!(console; " after {}", Counted(self.turns, "turn"));
         if !is_at_work(record) {
             no_product(console, record, parts.catalogue.sizes);
         }
@@ -120,6 +118,6 @@ impl Work {
 
 pub fn no_product(console: &Console, record: Seat, sizes: &[u8]) {
     if nothing_left(record, sizes.len()) {
-        text(console, b"no product satisfies these rules\n");
+        println!(console; "no product satisfies these rules");
     }
 }

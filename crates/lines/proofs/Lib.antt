@@ -1,0 +1,2 @@
+-- Where the table of the commands has each.
+mod Command

@@ -1,0 +1,2 @@
+-- The commands by their numbers.
+pub mod Command
