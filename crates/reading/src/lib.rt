@@ -29,13 +29,7 @@ pub fn options(desk: Desk, board: &[u8], catalogue: &Catalogue, c: usize, i: usi
 }
 
 // What could replace the choice of one feature, and how many options these are.
-pub fn alternatives(
-    desk: Desk,
-    board: &[u8],
-    catalogue: &Catalogue,
-    c: usize,
-    i: usize,
-) -> Left
+pub fn alternatives(desk: Desk, board: &[u8], catalogue: &Catalogue, c: usize, i: usize) -> Left
     ensures { ReadsAs
         (perform (catalogue_lent catalogue.now) (asks c (Read (Alternatives i))) (room_of desk board.now))
         (room_of desk board.now) result }

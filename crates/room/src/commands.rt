@@ -1,7 +1,7 @@
 // What each command does.
-use crate::parts::{Parts, in_use};
+use crate::parts::Parts;
 use crate::{Lent, Room, calls, digest, fields, list, showing, work};
-use desk::{Catalogue, Desk};
+use desk::Desk;
 use lines::commands::{Command, View};
 use lines::{Console, at, byte};
 use shown::{Asked, help};
@@ -37,10 +37,7 @@ fn answer(
     let mut parts = Parts {
         desk: room.desk,
         board: &mut board[..length],
-        catalogue: Catalogue {
-            sizes: in_use(sizes, room.sizes_count),
-            rules: in_use(rules, room.rules_count),
-        },
+        catalogue: room.catalogue(sizes, rules),
     };
     perform(console, &mut parts, command, numbers, room.watched);
     parts.desk

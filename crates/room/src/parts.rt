@@ -1,4 +1,5 @@
 // The desk, and just as much of the lent memory as is in use: what the desk's calls get.
+use crate::Room;
 use desk::{Catalogue, Changed, Desk, Left, Ran, Turned};
 use lines::commands::Change;
 use numbers::Refusal;
@@ -79,6 +80,16 @@ impl Parts<'_> {
     // Of a seat that a call has found to be there.
     pub fn record(&self, seat: u32) -> Seat {
         self.desk.seats[(seat % 8) as usize]
+    }
+}
+
+impl Room {
+    // As much of the two lists as is in use.
+    pub(crate) fn catalogue<'a>(&self, sizes: &'a [u8], rules: &'a [u16]) -> Catalogue<'a> {
+        Catalogue {
+            sizes: in_use(sizes, self.sizes_count),
+            rules: in_use(rules, self.rules_count),
+        }
     }
 }
 

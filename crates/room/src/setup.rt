@@ -1,7 +1,7 @@
 // The start state, and what sets catalogue and board.
 use crate::parts::in_use;
 use crate::{Lent, Room};
-use desk::{Catalogue, Desk};
+use desk::Desk;
 use lines::commands::Supply;
 use lines::{Console, at, byte, fill, put_rules, put_sizes, set_byte};
 
@@ -73,11 +73,7 @@ impl Room {
 fn are_good(console: &Console, room: Room, lent: &Lent) -> bool {
     let sizes = &*lent.sizes;
     let rules = &*lent.rules;
-    let catalogue = Catalogue {
-        sizes: in_use(sizes, room.sizes_count),
-        rules: in_use(rules, room.rules_count),
-    };
-    written::rules(console, &catalogue)
+    written::rules(console, &room.catalogue(sizes, rules))
 }
 
 // A new catalogue leaves the desk as it is, and one with a fault is not opened.
