@@ -1,12 +1,13 @@
 // The fault met first: one function for each part of the reading, one walk each.
 ghost use Rattle.std.specs.Prelude.{◌≡◌, ℕ, [], ◌≤◌, ◌<◌, ◌*◌, length};
 ghost use Rattle.numbers.specs.Refusal.{refusal_number};
+ghost use Rattle.builds.specs.Lists.{Every};
 ghost use Rattle.builds.specs.Fault.{sizes_fault, features_fault, row_fits, rows_fault, rule_fault, rules_fault, fault_of};
 ghost use Rattle.builds.specs.Catalogue.{arity, width};
 ghost use Rattle.catalogue.specs.Lent.{catalogue_lent};
 
 use crate::lent::Catalogue;
-use numbers::{Refusal, size_at};
+use numbers::Refusal;
 
 impl Catalogue<'_> {
     // 10 to 18, or none.
@@ -104,7 +105,8 @@ fn features_fault(count: usize, features: &[u16]) -> Result<(), Refusal>
 }
 
 fn rows_fault(sizes: &[u8], features: &[u16], rows: &[u16]) -> Result<(), Refusal>
-    requires { 0 < length features.now }
+    requires some { 0 < length features.now }
+    requires known { Every (λ (f : ℕ). f < length sizes.now) features.now }
     ensures { (count : ℕ) → length features.now * count ≡ length rows.now
         → refusal_number result ≡ rows_fault sizes.now features.now count rows.now }
 {
@@ -116,11 +118,16 @@ fn rows_fault(sizes: &[u8], features: &[u16], rows: &[u16]) -> Result<(), Refusa
     Ok(())
 }
 
+// An option of features that are all in the catalogue, each below its feature's size.
 fn row_fits(sizes: &[u8], features: &[u16], row: &[u16]) -> bool
-    requires { length row.now ≡ length features.now }
+    requires long { length row.now ≡ length features.now }
+    requires known { Every (λ (f : ℕ). f < length sizes.now) features.now }
     ensures { result ≡ row_fits sizes.now features.now row.now }
 {
-    features.iter().zip(row).all(|(feature, option)| {
-        usize::from(*option) < size_at(sizes, usize::from(*feature))
-    })
+    for (i, feature) in features.iter().enumerate() {
+        if u16::from(sizes[usize::from(*feature)]) <= row[i] {
+            return false;
+        }
+    }
+    true
 }

@@ -12,8 +12,11 @@ impl From<HostDesk> for Desk {
 
     fn from(given: HostDesk) -> Desk {
         let given_seats = given.seats;
+        let mut seats = [seat::closed(); 8];
+        for (c, seat) in given_seats.iter().enumerate() {
+            seats[c] = Seat::from(*seat);
+        }
         let all_known = given_seats.iter().all(|seat| seat.state <= 2);
-        let seats = given_seats.map(|seat| Seat::from(seat));
         if all_known {
             return Desk {
                 seats,
@@ -28,9 +31,13 @@ impl From<Desk> for HostDesk {
     ghost from_gives = { λ desk host. host ≡ host_desk_of desk };
 
     fn from(desk: Desk) -> HostDesk {
-        let seats = desk.seats;
+        let desk_seats = desk.seats;
+        let mut seats = [HostSeat::from(seat::closed()); 8];
+        for (c, seat) in desk_seats.iter().enumerate() {
+            seats[c] = HostSeat::from(*seat);
+        }
         HostDesk {
-            seats: seats.map(|seat| HostSeat::from(seat)),
+            seats,
             next: desk.next,
         }
     }

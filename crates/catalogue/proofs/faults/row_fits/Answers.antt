@@ -1,34 +1,45 @@
-use Prim.Native.Nat.{ℕ}
-use mathlib.Core.Path.{◌≡◌, refl, ap, ◌∙◌}
-use mathlib.Core.Bool.{Bool, ◌&&◌}
-use mathlib.Core.List.{List, [], ◌∷◌}
+use Prim.Native.Nat.{ℕ, ◌+◌, ◌≤◌, ◌<◌}
+use mathlib.Core.Path.{◌≡◌, sym, ◌∙◌}
+use mathlib.Core.Bool.{true, false}
+use mathlib.Core.List.{List}
 use native.Mathlib.Omega.{arith}
-use borrow.Author.Rules.{rules}
-use borrow.Author.Tests.{tests}
-use lib.Dec.{ltb}
-use lib.ListN.{length, get_or}
-use Rattle.std.specs.List.{list_all, zip}
-use Rattle.std.proofs.lemmas.Iterator.{YieldsList-from_slice, YieldsList-from_zip}
-use Rattle.std.proofs.lemmas.Iterator.Consumers.{YieldsList-at}
-use Rattle.std.proofs.lemmas.Iterator.Search.{all_from_yields_List}
+use borrow.Author.Tests.{lt-ltb, le-ltb}
+use lib.ListN.{length, get_or, drop}
 use Rattle.builds.specs.Fault.{row_fits}
+use Rattle.builds.proofs.Every.{every_at}
+use Rattle.builds.proofs.ListWalks.{left_next, left_none}
 use Rattle.catalogue.proofs.faults.row_fits.Goals as goal
 
--- an option beside its feature
-abbrev is_below : List ℕ → ℕ × ℕ → Bool
-is_below sizes pair = ltb pair.1 (get_or sizes pair.0 0)
+module _ (sizes fs row : List ℕ) (i : ℕ) where
+  goes_on : i < length fs → i < length row → get_or row i 0 < get_or sizes (get_or fs i 0) 0
+      → row_fits sizes (drop i fs) (drop i row) ≡ row_fits sizes (drop (i + 1) fs) (drop (i + 1) row)
+  unfolding row_fits
+  goes_on h r low = rw (left_next fs i h, left_next row i r, lt-ltb (get_or row i 0) (get_or sizes (get_or fs i 0) 0) low)
 
-by_pairs : (sizes fs row : List ℕ) → length row ≡ length fs → list_all (is_below sizes) (zip fs row) ≡ row_fits sizes fs row
-unfolding row_fits
-by_pairs sizes [] row same = refl
-by_pairs sizes (f ∷ fs) [] same = absurd (omega arith)
-by_pairs sizes (f ∷ fs) (option ∷ row) same =
-    ap (λ (later : Bool). is_below sizes (f, option) && later) (by_pairs sizes fs row (omega arith))
+  too_high : i < length fs → i < length row → get_or sizes (get_or fs i 0) 0 ≤ get_or row i 0
+      → row_fits sizes (drop i fs) (drop i row) ≡ false
+  unfolding row_fits
+  too_high h r high = rw (left_next fs i h, left_next row i r, le-ltb (get_or row i 0) (get_or sizes (get_or fs i 0) 0) high)
+
+  ends : length fs ≤ i → row_fits sizes (drop i fs) (drop i row) ≡ true
+  unfolding row_fits
+  ends h = rw (left_none fs i h)
+
+pub bounds-sizes-from : goal.bounds-sizes-from
+bounds-sizes-from c = omega (arith, every_at c.requires.known 0 c.loop-i.i (omega arith))
+
+pub returns-then-from-row : goal.returns-then-from-row
+returns-then-from-row c =
+    let start = c.args in
+    sym
+    (c.loop-i.invariant
+    ∙ too_high start.sizes.now start.features.now start.row.now c.loop-i.i (omega arith) (omega arith) (grind arith))
+
+pub loop-i-preserved : goal.loop-i-preserved
+loop-i-preserved c =
+    let start = c.args in
+    c.loop-i.invariant
+    ∙ goes_on start.sizes.now start.features.now start.row.now c.loop-i.i (omega arith) (omega arith) (grind arith)
 
 pub returns : goal.returns
-returns c =
-    let sizes = c.args.sizes.now in
-    all_from_yields_List (is_below sizes) c.all.new.self _ c.all.result c.all.ensures.ran
-    (YieldsList-from_zip (YieldsList-at c.zip.ensures.first (YieldsList-from_slice c.args.features.now cc)) (YieldsList-from_slice c.args.row.now c.zip.ensures.second.0))
-    (λ x b q k. search (rules, tests))
-    ∙ by_pairs sizes c.args.features.now c.args.row.now c.requires
+returns c = let start = c.args in sym (c.loop-i.invariant ∙ ends start.sizes.now start.features.now start.row.now c.loop-i.i (omega arith))

@@ -74,7 +74,7 @@ returns-then-not-row_fits c count whole =
     sym
     (here.same_fault
     ∙ stops c.args.sizes.now c.args.features.now c.in-Some.row.now _ _ _ step.1.0
-    (step.1.1 ∙ loop.invariant.row_width) c.requires here.so_many (sym c.row_fits.ensures ∙ c.if-not-row_fits.true))
+    (step.1.1 ∙ loop.invariant.row_width) c.requires.some here.so_many (sym c.row_fits.ensures ∙ c.if-not-row_fits.true))
 
 pub loop-row-preserved : goal.loop-row-preserved
 loop-row-preserved c =
@@ -87,9 +87,9 @@ loop-row-preserved c =
           let here = loop.invariant.rows_left count whole in
           let fewer : count - length (loop.yielded ++ c.in-Some.row ∷ []) ≡ (count - length loop.yielded) - 1 = simp length-append (omega arith) in
           rw fewer (record {
-            so_many = so_many_later c.args.sizes.now c.args.features.now c.in-Some.row.now _ _ _ step.1.0 width c.requires here.so_many;
+            so_many = so_many_later c.args.sizes.now c.args.features.now c.in-Some.row.now _ _ _ step.1.0 width c.requires.some here.so_many;
             same_fault = here.same_fault
-                ∙ goes_on c.args.sizes.now c.args.features.now c.in-Some.row.now _ _ _ step.1.0 width c.requires here.so_many
+                ∙ goes_on c.args.sizes.now c.args.features.now c.in-Some.row.now _ _ _ step.1.0 width c.requires.some here.so_many
                 (sym c.row_fits.ensures ∙ c.if-not-row_fits.false);
           });
     }

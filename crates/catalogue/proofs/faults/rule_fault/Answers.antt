@@ -11,6 +11,7 @@ use Rattle.numbers.specs.Refusal.{number_of}
 use Rattle.builds.specs.Catalogue.{arity, row_count, rows_begin, features_read}
 use Rattle.builds.specs.Fault.{rule_fault, features_fault, rows_fault}
 use Rattle.builds.proofs.Alone.{rows_alone}
+use Rattle.builds.proofs.Format.Features.{features_read_lem}
 use Rattle.builds.proofs.ListWalks.{last_row}
 use Rattle.catalogue.proofs.Walks.{refused_first}
 use Rattle.catalogue.proofs.faults.rule_fault.Goals as goal
@@ -135,6 +136,10 @@ returns-then-list-body c =
     let readable : Readable c.args.list.now = record { header = omega arith; low = omega arith; high = omega arith; room = omega arith } in
     let none = features_are c.args.sizes.now c.args.list.now c.from-k.result 0 c.from-k.ensures c.in_ok-features_fault.ensures in
     sym (no_rows c.args.sizes.now c.args.list.now readable (sym none) (omega (arith, room_is)))
+
+-- features without a fault are all in the catalogue
+pub rows_fault-requires-clause-known : goal.rows_fault-requires-clause-known
+rows_fault-requires-clause-known c = (features_read_lem _ [] _ (sym c.in_ok-features_fault.ensures)).known
 
 pub returns : goal.returns
 returns c =

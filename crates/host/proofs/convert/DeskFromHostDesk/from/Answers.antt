@@ -6,14 +6,14 @@ use native.Mathlib.Omega.{arith}
 use borrow.Author.Rules.{rules}
 use borrow.Author.Tests.{tests}
 use lib.Dec.{leb}
-use lib.ListN.{length}
+use lib.ListN.{length, length-set}
 use Rattle.std.specs.List.{list_all}
 use Rattle.std.proofs.lemmas.Iterator.{YieldsList-from_slice}
 use Rattle.std.proofs.lemmas.Iterator.Search.{all_from_yields_List}
 use Rattle.search.specs.Clinic.{no_seat}
+use Rattle.search.proofs.Filled.{one_more, all_made}
 use Rattle.host.specs.declared.records.HostSeat.{HostSeat}
 use Rattle.host.specs.Records.{desk_seat_of, host_seat_of, all_known, desk_of}
-use Rattle.host.proofs.Mapped.{mapped}
 use Rattle.host.proofs.convert.DeskFromHostDesk.from.Goals as goal
 
 abbrev is_known : HostSeat → Bool
@@ -24,14 +24,22 @@ unfolding all_known
 each_known [] = refl
 each_known (seat ∷ given) = ap (λ (more : Bool). is_known seat && more) (each_known given)
 
+pub loop-c-preserved : goal.loop-c-preserved
+loop-c-preserved c =
+    let made = c.loop-c in (
+      length-set made.seats made.c c.from.result ∙ made.invariant.0,
+      one_more desk_seat_of c.args.given.seats made.seats (host_seat_of no_seat) made.c c.from.result (omega arith) (omega arith)
+          c.from.ensures made.invariant.1,
+    )
+
 pub returns-then-all_known : goal.returns-then-all_known
 unfolding desk_of
 returns-then-all_known c =
     let given = c.args.given.seats in
-    let eight : length given ≡ 8 = omega arith in
+    let made = c.loop-c in
     let answer = all_from_yields_List is_known _ _ c.all-all_known.result c.all-all_known.ensures.ran (YieldsList-from_slice given cc) (λ x b q k. search (rules, tests)) in
     rw (
-      mapped 8 desk_seat_of (host_seat_of no_seat) eight c.map-seats.ensures.items (λ p q x y called. search rules),
+      all_made desk_seat_of given made.seats made.c (omega arith) (omega arith) made.invariant.1,
       sym (each_known given) ∙ sym answer ∙ c.if-all_known.true,
     )
 
@@ -39,9 +47,9 @@ pub returns : goal.returns
 unfolding desk_of
 returns c =
     let given = c.args.given.seats in
-    let eight : length given ≡ 8 = omega arith in
+    let made = c.loop-c in
     let answer = all_from_yields_List is_known _ _ c.all-all_known.result c.all-all_known.ensures.ran (YieldsList-from_slice given cc) (λ x b q k. search (rules, tests)) in
     rw (
-      mapped 8 desk_seat_of (host_seat_of no_seat) eight c.map-seats.ensures.items (λ p q x y called. search rules),
+      all_made desk_seat_of given made.seats made.c (omega arith) (omega arith) made.invariant.1,
       sym (each_known given) ∙ sym answer ∙ c.if-all_known.false,
     )

@@ -1,15 +1,22 @@
 -- The seats converted, and next as it is.
-use mathlib.Core.Path.{◌≡◌}
+use mathlib.Core.Path.{◌≡◌, ◌∙◌}
 use native.Mathlib.Omega.{arith}
-use borrow.Author.Rules.{rules}
-use lib.ListN.{length}
+use lib.ListN.{length, length-set}
 use Rattle.search.specs.Clinic.{no_seat}
 use Rattle.host.specs.Records.{host_seat_of, host_desk_of}
-use Rattle.host.proofs.Mapped.{mapped}
+use Rattle.search.proofs.Filled.{one_more, all_made}
 use Rattle.host.proofs.convert.HostDeskFromDesk.from.Goals as goal
+
+pub loop-c-preserved : goal.loop-c-preserved
+loop-c-preserved c =
+    let made = c.loop-c in (
+      length-set made.seats made.c c.from.result ∙ made.invariant.0,
+      one_more host_seat_of c.args.desk.seats made.seats no_seat made.c c.from.result (omega arith) (omega arith) c.from.ensures
+          made.invariant.1,
+    )
 
 pub returns : goal.returns
 unfolding host_desk_of
 returns c =
-    let eight : length c.args.desk.seats ≡ 8 = omega arith in
-    rw (mapped 8 host_seat_of no_seat eight c.map.ensures.items (λ p q x y called. search rules))
+    let made = c.loop-c in
+    rw (all_made host_seat_of c.args.desk.seats made.seats made.c (omega arith) (omega arith) made.invariant.1)
