@@ -133,7 +133,6 @@ fn after_step(
     ensures comes_to { ComesTo (catalogue_in basis.now) place
         choices.now placed.now share.old result share.new }
 {
-    let sizes = basis.catalogue.sizes;
     let feature = place.feature;
     let option = place.option;
     let sizes = basis.accepted.catalogue.sizes;
