@@ -8,6 +8,7 @@ use shown::{Asked, help};
 
 impl Room {
     // A number that is no command does nothing.
+    // Stays: a number, and no Command: `obey` may not change, it takes any number, and only the program calls it.
     pub fn obey(&mut self, console: &Console, lent: &mut Lent, command: usize, numbers: &[u32]) {
         match Command::try_from(command) {
             Ok(Command::Supply(supply)) => self.supply(console, lent, supply, numbers),

@@ -72,12 +72,13 @@ fn chosen(console: &Console, parts: &Parts, asked: Asked) {
 // The seats at work, rising.
 fn at_work(console: &Console, desk: Desk) {
     print!(console; "at work:");
-    let mut none = true;
     for (c, seat) in desk.seats.iter().enumerate() {
         if look::is_at_work(*seat) {
             print!(console; " {c}");
-            none = false;
         }
     }
-    println!(console; "{}", if none { " none" } else { "" });
+    if !desk.seats.iter().any(|seat| look::is_at_work(*seat)) {
+        print!(console; " none");
+    }
+    println!(console);
 }

@@ -20,7 +20,7 @@ pub struct Lengths {
     pub rules: usize,
 }
 
-// A call's answer has its refusal as a number, as C reads it.
+// Stays: the C interface: a call's answer has its refusal as a number, which C reads.
 pub fn refused(console: &Console, number: u8, lengths: Lengths, asked: Asked) {
     print!(console; "refused {number}: ");
     if let Ok(refusal) = Refusal::try_from(number) {
