@@ -55,6 +55,7 @@ fn rules_fault(catalogue: &Catalogue) -> Result<(), Refusal>
 }
 
 // The rule at the front of the list: header, arity, features, rows, each before it is read.
+// Stays: sizes and a list, which is what is left of the catalogue's; to make a catalogue of it at each rule is no plainer.
 fn rule_fault(sizes: &[u8], list: &[u16]) -> Result<(), Refusal>
     ensures { refusal_number result ≡ rule_fault sizes.now list.now }
 {

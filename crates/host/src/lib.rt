@@ -2,6 +2,7 @@
 // the desk and converts its answer back; a refused call hands the host's own record back, exactly as it was. Each name ends
 // with the number of the door's layout, which goes up by one whenever a record or a call changes: a host that was made for
 // another layout finds no such name and is not linked.
+// Stays: sizes and rule list are parameters of their own, as the C interface has them.
 #![tactic(auto)]
 
 mod answers;

@@ -85,8 +85,8 @@ fn walk<'a>(catalogue: &Catalogue<'a>, most: usize) -> (usize, &'a [u16]) {
 }
 
 // Whether there is a rule, whole and without a fault.
-fn stands(sizes: &[u8], rules: &[u16]) -> bool {
-    !rules.is_empty() && Catalogue { sizes, rules }.fault().is_ok()
+fn stands(sizes: &[u8], rule: &[u16]) -> bool {
+    !rule.is_empty() && Catalogue { sizes, rules: rule }.fault().is_ok()
 }
 
 // The first feature whose size is 0 or above 16.
