@@ -73,8 +73,7 @@ fn closed_fits(seat: &Seat, sizes: &[u8]) -> bool
 fn open_fits(seat: &Seat, depth: usize, accepted: &Accepted) -> bool
     ensures { result ≡ (every_below 16 (choice_fits accepted.now.catalogue.sizes.now seat.now.choices)
         && every_below 16 (mask_fits accepted.now.catalogue.sizes.now seat.now.masks)
-        && every_below 16 (alternatives_fit accepted.now.catalogue.sizes.now seat.now.choices
-        seat.now.alternatives)
+        && every_below 16 (alternatives_fit accepted.now.catalogue.sizes.now seat.now.choices seat.now.alternatives)
         && every_below 16 (entry_fits accepted.now.catalogue.sizes.now depth seat.now.trial)) }
 {
     let sizes = accepted.catalogue.sizes;

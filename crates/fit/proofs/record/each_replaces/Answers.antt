@@ -8,6 +8,7 @@ use Rattle.fit.proofs.record.each_replaces.Goals as goal
 
 pub returns : goal.returns
 returns c =
-    all_from_yields_List (alternatives_fit c.args.accepted.now.catalogue.sizes.now c.args.choices.now c.args.alternatives.now) _ _ _ c.all.ensures.ran
+    let sizes = c.args.accepted.now.catalogue.sizes.now in
+    all_from_yields_List (alternatives_fit sizes c.args.choices.now c.args.alternatives.now) _ _ _ c.all.ensures.ran
     (YieldsList-from_range 0 16 16 refl refl) (λ x b q k. search (rules, tests))
-    ∙ all_below (alternatives_fit c.args.accepted.now.catalogue.sizes.now c.args.choices.now c.args.alternatives.now) 16
+    ∙ all_below (alternatives_fit sizes c.args.choices.now c.args.alternatives.now) 16

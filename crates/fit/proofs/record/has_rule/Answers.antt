@@ -19,8 +19,10 @@ returns-then-left-eq0 c = all_passed c.loop-place.invariant c.loop-place-test.tr
 
 pub bounds-rest-1 : goal.bounds-rest-1
 bounds-rest-1 c =
-    let part_length : length (take (length c.args.accepted.now.catalogue.rules.now - c.loop-place.place) (drop c.loop-place.place c.args.accepted.now.catalogue.rules.now)) ≡ length (drop c.loop-place.place c.args.accepted.now.catalogue.rules.now) = ap length (left_lent c.args.accepted.now.catalogue.rules.now c.loop-place.place) in
-    let whole_here : WholeRule (drop c.loop-place.place c.args.accepted.now.catalogue.rules.now) = rule_here c.loop-place.invariant c.loop-place-test.true in
+    let rules = c.args.accepted.now.catalogue.rules.now in
+    let place = c.loop-place.place in
+    let part_length : length (take (length rules - place) (drop place rules)) ≡ length (drop place rules) = ap length (left_lent rules place) in
+    let whole_here : WholeRule (drop place rules) = rule_here c.loop-place.invariant c.loop-place-test.true in
     omega (arith, part_length, whole_here.has_header)
 
 pub loop-place-preserved : goal.loop-place-preserved

@@ -8,6 +8,7 @@ use Rattle.fit.proofs.record.masks_fit.Goals as goal
 
 pub returns : goal.returns
 returns c =
-    all_from_yields_List (mask_fits c.args.accepted.now.catalogue.sizes.now c.args.masks.now) _ _ _ c.all.ensures.ran
+    let sizes = c.args.accepted.now.catalogue.sizes.now in
+    all_from_yields_List (mask_fits sizes c.args.masks.now) _ _ _ c.all.ensures.ran
     (YieldsList-from_range 0 16 16 refl refl) (λ x b q k. search (rules, tests))
-    ∙ all_below (mask_fits c.args.accepted.now.catalogue.sizes.now c.args.masks.now) 16
+    ∙ all_below (mask_fits sizes c.args.masks.now) 16
