@@ -119,16 +119,15 @@ fn rows_fault(sizes: &[u8], features: &[u16], rows: &[u16]) -> Result<(), Refusa
     Ok(())
 }
 
-// An option of features that are all in the catalogue, each below its feature's size.
+// Each option below the size of its feature. A row has six at most: none is skipped, which is faster than to leave early.
 fn row_fits(sizes: &[u8], features: &[u16], row: &[u16]) -> bool
     requires long { length row.now ≡ length features.now }
     requires known { Every (λ (f : ℕ). f < length sizes.now) features.now }
     ensures { result ≡ row_fits sizes.now features.now row.now }
 {
+    let mut fits = true;
     for (i, feature) in features.iter().enumerate() {
-        if u16::from(sizes[usize::from(*feature)]) <= row[i] {
-            return false;
-        }
+        fits &= row[i] < u16::from(sizes[usize::from(*feature)]);
     }
-    true
+    fits
 }

@@ -3,7 +3,6 @@
 --   Contracts: the contracts, written out apart from the code
 --   Settled: of each call any two outcomes that its contract allows are equal
 --   ThereAndBack: the two conversions undo each other
-pub mod Mapped
 pub mod ThroughDoor
 pub mod StandingExample
 pub mod ThereAndBack

@@ -11,19 +11,13 @@ impl From<HostDesk> for Desk {
     ghost from_gives = { λ given desk. desk ≡ desk_of given };
 
     fn from(given: HostDesk) -> Desk {
-        let given_seats = given.seats;
         let mut seats = [seat::closed(); 8];
-        for (c, seat) in given_seats.iter().enumerate() {
+        for (c, seat) in given.seats.iter().enumerate() {
             seats[c] = Seat::from(*seat);
         }
-        let all_known = given_seats.iter().all(|seat| seat.state <= 2);
-        if all_known {
-            return Desk {
-                seats,
-                next: given.next,
-            };
-        }
-        Desk { seats, next: 255 }
+        let all_known = given.seats.iter().all(|seat| seat.state <= 2);
+        let next = if all_known { given.next } else { 255 };
+        Desk { seats, next }
     }
 }
 
@@ -31,9 +25,8 @@ impl From<Desk> for HostDesk {
     ghost from_gives = { λ desk host. host ≡ host_desk_of desk };
 
     fn from(desk: Desk) -> HostDesk {
-        let desk_seats = desk.seats;
         let mut seats = [HostSeat::from(seat::closed()); 8];
-        for (c, seat) in desk_seats.iter().enumerate() {
+        for (c, seat) in desk.seats.iter().enumerate() {
             seats[c] = HostSeat::from(*seat);
         }
         HostDesk {

@@ -6,7 +6,7 @@ use native.Mathlib.Omega.{arith}
 use borrow.Author.Rules.{rules}
 use borrow.Author.Tests.{tests}
 use lib.Dec.{leb}
-use lib.ListN.{length, length-set}
+use lib.ListN.{length-set}
 use Rattle.std.specs.List.{list_all}
 use Rattle.std.proofs.lemmas.Iterator.{YieldsList-from_slice}
 use Rattle.std.proofs.lemmas.Iterator.Search.{all_from_yields_List}
@@ -43,9 +43,9 @@ returns-then-all_known c =
       sym (each_known given) ∙ sym answer ∙ c.if-all_known.true,
     )
 
-pub returns : goal.returns
+pub returns-else-all_known : goal.returns-else-all_known
 unfolding desk_of
-returns c =
+returns-else-all_known c =
     let given = c.args.given.seats in
     let made = c.loop-c in
     let answer = all_from_yields_List is_known _ _ c.all-all_known.result c.all-all_known.ensures.ran (YieldsList-from_slice given cc) (λ x b q k. search (rules, tests)) in

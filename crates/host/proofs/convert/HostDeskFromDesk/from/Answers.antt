@@ -1,7 +1,7 @@
 -- The seats converted, and next as it is.
-use mathlib.Core.Path.{◌≡◌, ◌∙◌}
+use mathlib.Core.Path.{◌∙◌}
 use native.Mathlib.Omega.{arith}
-use lib.ListN.{length, length-set}
+use lib.ListN.{length-set}
 use Rattle.search.specs.Clinic.{no_seat}
 use Rattle.host.specs.Records.{host_seat_of, host_desk_of}
 use Rattle.search.proofs.Filled.{one_more, all_made}

@@ -6,4 +6,4 @@ use Rattle.host.specs.Records.{host_seat_of}
 use Rattle.host.proofs.convert.HostDeskFromDesk.from.Given as goal
 
 abbrev pub invariant-loop-c : goal.invariant-loop-c
-invariant-loop-c l = (length l.seats ≡ 8) × (take l.c l.seats ≡ take l.c (map host_seat_of l.desk.seats))
+invariant-loop-c l = (length l.seats ≡ 8) × (take l.c l.seats ≡ take l.c (map host_seat_of l.fn.desk.seats))
