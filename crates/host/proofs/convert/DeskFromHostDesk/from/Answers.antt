@@ -1,7 +1,7 @@
 -- The seats converted; next is 255 where a state has no meaning.
-use mathlib.Core.Path.{◌≡◌, refl, sym, ap, ◌∙◌}
-use mathlib.Core.Bool.{Bool, ◌&&◌}
-use mathlib.Core.List.{List, [], ◌∷◌}
+use mathlib.Core.Path.{◌≡◌, refl, ap, ◌∙◌}
+use mathlib.Core.Bool.{Bool, cond, ◌&&◌}
+use mathlib.Core.List.{List, [], ◌∷◌, map}
 use native.Mathlib.Omega.{arith}
 use borrow.Author.Rules.{rules}
 use borrow.Author.Tests.{tests}
@@ -12,6 +12,8 @@ use Rattle.std.proofs.lemmas.Iterator.{YieldsList-from_slice}
 use Rattle.std.proofs.lemmas.Iterator.Search.{all_from_yields_List}
 use Rattle.search.specs.Clinic.{no_seat}
 use Rattle.search.proofs.Filled.{one_more, all_made}
+use Rattle.search.specs.declared.Seat.{Seat}
+use Rattle.host.specs.declared.records.HostDesk.{HostDesk}
 use Rattle.host.specs.declared.records.HostSeat.{HostSeat}
 use Rattle.host.specs.Records.{desk_seat_of, host_seat_of, all_known, desk_of}
 use Rattle.host.proofs.convert.DeskFromHostDesk.from.Goals as goal
@@ -24,6 +26,12 @@ unfolding all_known
 each_known [] = refl
 each_known (seat ∷ given) = ap (λ (more : Bool). is_known seat && more) (each_known given)
 
+-- the answer to whether all are known decides which seat is next
+decided : (given : HostDesk) (seats : List Seat) (answer : Bool) → seats ≡ map desk_seat_of given.seats
+    → answer ≡ list_all is_known given.seats → record { seats = seats; next = cond answer given.next 255 } ≡ desk_of given
+unfolding desk_of
+decided given seats answer made known = rw (made, known ∙ each_known given.seats)
+
 pub loop-c-preserved : goal.loop-c-preserved
 loop-c-preserved c =
     let made = c.loop-c in (
@@ -33,23 +41,19 @@ loop-c-preserved c =
     )
 
 pub returns-then-all_known : goal.returns-then-all_known
-unfolding desk_of
 returns-then-all_known c =
     let given = c.args.given.seats in
     let made = c.loop-c in
     let answer = all_from_yields_List is_known _ _ c.all-all_known.result c.all-all_known.ensures.ran (YieldsList-from_slice given cc) (λ x b q k. search (rules, tests)) in
-    rw (
-      all_made desk_seat_of given made.seats made.c (omega arith) (omega arith) made.invariant.1,
-      sym (each_known given) ∙ sym answer ∙ c.if-all_known.true,
-    )
+    rw c.if-all_known.true at
+    (decided c.args.given made.seats c.all-all_known.result
+    (all_made desk_seat_of given made.seats made.c (omega arith) (omega arith) made.invariant.1) answer)
 
 pub returns-else-all_known : goal.returns-else-all_known
-unfolding desk_of
 returns-else-all_known c =
     let given = c.args.given.seats in
     let made = c.loop-c in
     let answer = all_from_yields_List is_known _ _ c.all-all_known.result c.all-all_known.ensures.ran (YieldsList-from_slice given cc) (λ x b q k. search (rules, tests)) in
-    rw (
-      all_made desk_seat_of given made.seats made.c (omega arith) (omega arith) made.invariant.1,
-      sym (each_known given) ∙ sym answer ∙ c.if-all_known.false,
-    )
+    rw c.if-all_known.false at
+    (decided c.args.given made.seats c.all-all_known.result
+    (all_made desk_seat_of given made.seats made.c (omega arith) (omega arith) made.invariant.1) answer)
