@@ -1,11 +1,14 @@
 -- What follows of the place that is tried: it lies within the code's arrays. Said twice, by
 -- what a step needs of the whole record, and by what trying an option needs of the place alone.
+-- That features are few, and the first has an option, follows of the catalogue.
 use Prim.Native.Nat.{ℕ, ◌≤◌, ◌<◌}
 use mathlib.Core.Path.{◌≡◌}
 use mathlib.Core.List.{List}
 use native.Mathlib.Omega.{arith}
 use lib.ListN.{length, get_or, set}
 use Rattle.std.specs.Prelude.{Option}
+use Rattle.catalogue.specs.Lent.{catalogue_lent}
+use Rattle.catalogue.specs.declared.checked.Accepted.{Accepted}
 use Rattle.search.specs.declared.Place.{Place}
 use Rattle.search.specs.declared.Seat.{Seat}
 use Rattle.search.specs.declared.State.TheVariants.{AtWork}
@@ -15,6 +18,14 @@ use Rattle.search.proofs.KeptBefore.{kept_under}
 use Rattle.search.proofs.PlaceBounds as bounds
 use Rattle.step.specs.declared.basis.Basis.{Basis}
 use Rattle.step.specs.Inner.StepContracts.{catalogue_in, StepNeeds, TryNeeds}
+
+-- a catalogue that has passed its check
+module _ (accepted : Accepted) where
+  pub few_features : length (catalogue_lent accepted.catalogue).sizes ≤ 16
+  few_features = bounds.few_features (catalogue_lent accepted.catalogue) accepted.faultless
+
+  pub some_option : 1 ≤ get_or (catalogue_lent accepted.catalogue).sizes 0 0
+  some_option = bounds.first_has_option (catalogue_lent accepted.catalogue) accepted.faultless
 
 -- a record at work at a place, which fits the catalogue
 module _
@@ -65,9 +76,6 @@ module _
     pub tried_fits : PlaceFits (catalogue_in basis) place
     tried_fits = place_fits_lem (catalogue_in basis) place needs.within
 
-    pub few_features : length (catalogue_in basis).sizes ≤ 16
-    few_features = bounds.few_features (catalogue_in basis) basis.accepted.faultless
-
     pub depth_below_16 : place.depth < 16
     depth_below_16 = bounds.depth_below_16 (catalogue_in basis) basis.accepted.faultless tried_fits
 
@@ -77,8 +85,5 @@ module _
     pub option_below_16 : place.option < 16
     option_below_16 = bounds.option_below_16 (catalogue_in basis) basis.accepted.faultless tried_fits
 
-    pub pair_within : (length (catalogue_in basis).sizes ≤ 16) × (place.feature < length (catalogue_in basis).sizes) × (place.option < 16)
-    pair_within = (few_features, tried_fits.feature_below, option_below_16)
-
-    pub some_option : 1 ≤ get_or (catalogue_in basis).sizes 0 0
-    some_option = bounds.first_has_option (catalogue_in basis) basis.accepted.faultless
+    pub pair_within : (place.feature < length (catalogue_in basis).sizes) × (place.option < 16)
+    pair_within = (tried_fits.feature_below, option_below_16)

@@ -12,6 +12,7 @@ ghost use Rattle.step.specs.Inner.StepContracts.{tried_of, depth_in, catalogue_i
 
 use crate::basis::Basis;
 use arrays::{masks_after, trial_after};
+use catalogue::Accepted;
 use search::{Place, Seat, State};
 use seat::{first_candidate, next_candidate, started, write_example};
 
@@ -40,6 +41,7 @@ pub struct After {
 }
 
 // One step: record and share of the written search after it. A seat that is not at work makes none.
+// Stays: step_in is public (docs/CONTRACTS.md), with any Seat and slice: a type that holds `StepNeeds` would ask more.
 pub fn step(seat: Seat, share: &mut [u8], basis: &Basis) -> Seat
     requires { StepNeeds basis.now seat share.old }
     ensures { Stepped (catalogue_in basis.now)
@@ -135,7 +137,7 @@ fn after_step(
 {
     let feature = place.feature;
     let option = place.option;
-    let sizes = basis.accepted.catalogue.sizes;
+    let accepted = &basis.accepted;
     let way = try_next(place, tested, choices, placed, basis);
     match way {
         Way::GoOn { depth, next } => {
@@ -153,14 +155,14 @@ fn after_step(
         }
         Way::Build => {
             if chosen_otherwise(choices, feature, option) {
-                return pair_ended(sizes, choices, feature, option, Shown::Alternative);
+                return pair_ended(accepted, choices, feature, option, Shown::Alternative);
             }
             let i = feature as usize;
             let a = option as usize;
             write_example(share, i * 256 + a * 16, placed);
-            pair_ended(sizes, choices, feature, option, Shown::Left)
+            pair_ended(accepted, choices, feature, option, Shown::Left)
         }
-        Way::Exhausted => pair_ended(sizes, choices, feature, option, Shown::Nothing),
+        Way::Exhausted => pair_ended(accepted, choices, feature, option, Shown::Nothing),
     }
 }
 
@@ -197,7 +199,7 @@ fn try_next(
     let j = depth as usize;
     let sizes = basis.accepted.catalogue.sizes;
     if tested.is_some() {
-        return given_up(sizes, choices, i, option, depth, placed);
+        return given_up(&basis.accepted, choices, i, option, depth, placed);
     }
     if j + 1 == sizes.len() {
         return Way::Build;
@@ -210,14 +212,22 @@ fn try_next(
 }
 
 // Rule 5: the next greater candidate, at this depth or the nearest earlier one that has any.
-fn given_up(sizes: &[u8], choices: &[u8; 16], i: usize, option: u8, depth: u8, placed: &[u8]) -> Way
-    requires within { (length sizes.now ≤ 16) × (depth < length sizes.now) }
+fn given_up(
+    accepted: &Accepted,
+    choices: &[u8; 16],
+    i: usize,
+    option: u8,
+    depth: u8,
+    placed: &[u8],
+) -> Way
+    requires within { depth < length accepted.now.catalogue.sizes.now }
     requires placed_at { PlacedAt depth placed.now }
     ensures depth_in_reach { depth_in result ≤ depth }
     ensures gives_up { tried_of result placed.now
-        ≡ given_up sizes.now choices.now i option depth (get_or placed.now depth 255)
-        (kept_before depth placed.now) }
+        ≡ given_up accepted.now.catalogue.sizes.now choices.now i option depth
+        (get_or placed.now depth 255) (kept_before depth placed.now) }
 {
+    let sizes = accepted.catalogue.sizes;
     for j in (0..depth + 1).rev() {
         let at = j as usize;
         if let Some(next) = next_candidate(sizes, choices, i, option, at, placed[at]) {
@@ -228,16 +238,21 @@ fn given_up(sizes: &[u8], choices: &[u8; 16], i: usize, option: u8, depth: u8, p
 }
 
 // A pair ends, and the next starts in the same step; after the last the seat is ready.
-fn pair_ended(sizes: &[u8], choices: &[u8; 16], feature: u8, option: u8, shown: Shown) -> After
-    requires pair_within { (length sizes.now ≤ 16) × (feature < length sizes.now) × (option < 16) }
-    requires some_option { 1 ≤ get_or sizes.now 0 0 }
+fn pair_ended(
+    accepted: &Accepted,
+    choices: &[u8; 16],
+    feature: u8,
+    option: u8,
+    shown: Shown,
+) -> After
+    requires { (feature < length accepted.now.catalogue.sizes.now) × (option < 16) }
     ensures { result ≡ record {
-      state = after_pair sizes.now choices.now feature option;
+      state = after_pair accepted.now.catalogue.sizes.now choices.now feature option;
       depth = 0;
       shown = shown;
     } }
 {
-    let state = after_pair(sizes, choices, feature, option);
+    let state = after_pair(accepted, choices, feature, option);
     After {
         state,
         depth: 0,
@@ -245,11 +260,12 @@ fn pair_ended(sizes: &[u8], choices: &[u8; 16], feature: u8, option: u8, shown: 
     }
 }
 
-fn after_pair(sizes: &[u8], choices: &[u8; 16], feature: u8, option: u8) -> State
-    requires pair_within { (length sizes.now ≤ 16) × (feature < length sizes.now) × (option < 16) }
-    requires some_option { 1 ≤ get_or sizes.now 0 0 }
-    ensures { result ≡ after_pair sizes.now choices.now feature option }
+#[tactic(auto, using(crate::proofs::InPlace::few_features, crate::proofs::InPlace::some_option))]
+fn after_pair(accepted: &Accepted, choices: &[u8; 16], feature: u8, option: u8) -> State
+    requires { (feature < length accepted.now.catalogue.sizes.now) × (option < 16) }
+    ensures { result ≡ after_pair accepted.now.catalogue.sizes.now choices.now feature option }
 {
+    let sizes = accepted.catalogue.sizes;
     let i = feature as usize;
     let next = option + 1;
     if next < sizes[i] {

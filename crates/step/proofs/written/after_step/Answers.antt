@@ -14,7 +14,7 @@ use Rattle.search.specs.Candidates.{chosen_otherwise}
 use Rattle.search.specs.Step.{pair_ended, after_tried, search_at, tried}
 use Rattle.search.specs.Inner.Placed.{kept_before}
 use Rattle.step.specs.Inner.StepContracts.{catalogue_in, tried_of}
-use Rattle.step.proofs.InPlace.{feature_below_16, option_below_16, pair_within, some_option}
+use Rattle.step.proofs.InPlace.{feature_below_16, option_below_16, pair_within}
 use Rattle.step.proofs.written.after_step.Goals as goal
 
 -- the step is what comes of trying the option
@@ -30,7 +30,7 @@ pub chosen_otherwise-requires : goal.chosen_otherwise-requires
 chosen_otherwise-requires c = feature_below_16 c.requires.needs
 
 pub pair_ended-requires : goal.pair_ended-requires
-pair_ended-requires c = record { pair_within = pair_within c.requires.needs; some_option = some_option c.requires.needs }
+pair_ended-requires c = pair_within c.requires.needs
 
 pub returns-then-chosen_otherwise : goal.returns-then-chosen_otherwise
 unfolding after_tried pair_ended with_alternative kept_before
@@ -49,10 +49,10 @@ write_example-requires c =
     (c.requires.needs.placed_so.sixteen, rw c.requires.whole_share (omega (arith, feature_below_16 c.requires.needs, option_below_16 c.requires.needs)))
 
 pub pair_ended-requires-in-Build : goal.pair_ended-requires-in-Build
-pair_ended-requires-in-Build c = record { pair_within = pair_within c.requires.needs; some_option = some_option c.requires.needs }
+pair_ended-requires-in-Build c = pair_within c.requires.needs
 
 pub pair_ended-requires-in-Exhausted : goal.pair_ended-requires-in-Exhausted
-pair_ended-requires-in-Exhausted c = record { pair_within = pair_within c.requires.needs; some_option = some_option c.requires.needs }
+pair_ended-requires-in-Exhausted c = pair_within c.requires.needs
 
 pub returns-in-GoOn : goal.returns-in-GoOn
 unfolding after_tried

@@ -8,5 +8,5 @@ use Rattle.step.proofs.written.given_up.Given as goal
 
 abbrev pub invariant-loop-j : goal.invariant-loop-j
 invariant-loop-j l =
-    given_up_below l.sizes l.choices l.i l.option l.placed l.j
-    ≡ given_up l.sizes l.choices l.i l.option l.depth (get_or l.placed l.depth 255) (kept_before l.depth l.placed)
+    given_up_below l.accepted.catalogue.sizes.now l.choices l.i l.option l.placed l.j
+    ≡ given_up l.accepted.catalogue.sizes.now l.choices l.i l.option l.depth (get_or l.placed l.depth 255) (kept_before l.depth l.placed)

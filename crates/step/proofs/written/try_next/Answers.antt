@@ -30,7 +30,7 @@ passed_told None e = refl
 passed_told (Some rule) e = sym e
 
 pub given_up-requires-clause-within : goal.given_up-requires-clause-within
-given_up-requires-clause-within c = (few_features c.requires, (tried_fits c.requires).depth_below)
+given_up-requires-clause-within c = (tried_fits c.requires).depth_below
 
 pub returns-then-is_some : goal.returns-then-is_some
 unfolding tried passes
@@ -59,7 +59,7 @@ first_candidate-first-requires c =
     let next_depth : c.args.place.depth + 1 < length c.args.basis.now.accepted.catalogue.sizes.now = omega (arith, (tried_fits c.requires).depth_below, c.if-j-sizes.false) in
     let size = size_within (catalogue_in c.args.basis.now) c.args.basis.now.accepted.faultless (c.args.place.depth + 1) next_depth in
     let choices_long : length c.args.choices.now ≡ 16 = search rules in
-    (choices_long, omega (arith, next_depth, few_features c.requires), size.0)
+    (choices_long, omega (arith, next_depth, few_features c.args.basis.now.accepted), size.0)
 
 pub returns : goal.returns
 unfolding tried passes
