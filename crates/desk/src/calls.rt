@@ -30,6 +30,7 @@ pub fn open(board: &mut [u8], catalogue: &Catalogue) -> Changed
     }
 }
 
+// Stays: this and the next three are calls of document 01, each with a contract of its own; `ask` carries all out.
 // The closed seat gets a job.
 pub fn enter(desk: Desk, board: &mut [u8], catalogue: &Catalogue, c: usize) -> Changed
     ensures { ChangesTo
