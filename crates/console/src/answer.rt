@@ -16,11 +16,11 @@ pub struct Sitting<'a> {
 
 // What a line is.
 #[derive(Clone, Copy)]
-enum Line {
+enum Line<'a> {
     Nothing,
     Unknown,
     Misused(Form),
-    Command(usize, usize), // and how many numbers it has
+    Command(usize, &'a [u32]), // and its numbers
 }
 
 impl Sitting<'_> {
@@ -38,11 +38,7 @@ impl Sitting<'_> {
                 println!(console);
                 self.miss(console);
             }
-            Line::Command(command, count) => self.obey(
-                console,
-                command,
-                between(&numbers, 0, count),
-            ),
+            Line::Command(command, given) => self.obey(console, command, given),
         }
     }
 
@@ -69,7 +65,7 @@ fn ends(command: usize) -> bool {
 }
 
 // A byte-order mark is passed over.
-fn read(console: &Console, room: Room, line: &[u8], numbers: &mut [u32]) -> Line {
+fn read<'a>(console: &Console, room: Room, line: &[u8], numbers: &'a mut [u32]) -> Line<'a> {
     let words = line.strip_prefix(b"\xef\xbb\xbf").unwrap_or(line);
     let from = end_of(words, 0, Stretch::Blanks);
     if from == words.len() {
@@ -87,22 +83,20 @@ fn read(console: &Console, room: Room, line: &[u8], numbers: &mut [u32]) -> Line
     }
 }
 
-fn read_command(room: Room, form: Form, rest: &[u8], numbers: &mut [u32]) -> Line {
-    let Some(count) = read_numbers(rest, numbers) else {
-        return Line::Misused(form);
-    };
-    let given = between(numbers, 0, count);
-    if takes(form, given) && has_place(room, form.command, at(given, 0) as usize, count) {
-        return Line::Command(form.command, count);
+fn read_command<'a>(room: Room, form: Form, rest: &[u8], numbers: &'a mut [u32]) -> Line<'a> {
+    match read_numbers(rest, numbers) {
+        Some(given) if takes(form, given) && has_place(room, form.command, given) => {
+            Line::Command(form.command, given)
+        }
+        _ => Line::Misused(form),
     }
-    Line::Misused(form)
 }
 
 // Whether the board has the place and the rule list room for more.
-fn has_place(room: Room, command: usize, place: usize, count: usize) -> bool {
+fn has_place(room: Room, command: usize, numbers: &[u32]) -> bool {
     match Command::try_from(command) {
-        Ok(Command::Supply(Supply::SetByte)) => place < room.board_length,
-        Ok(Command::Supply(Supply::More)) => count <= 9000 - room.rules_count.min(9000),
+        Ok(Command::Supply(Supply::SetByte)) => (at(numbers, 0) as usize) < room.board_length,
+        Ok(Command::Supply(Supply::More)) => numbers.len() <= 9000 - room.rules_count.min(9000),
         _ => true,
     }
 }

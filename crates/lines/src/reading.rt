@@ -42,9 +42,9 @@ pub fn end_of(all: &[u8], from: usize, stretch: Stretch) -> usize
         .map_or(all.len(), |so_many| start + so_many)
 }
 
-// Reads the numbers after a command's word, up to a remark, and answers how many. More than there is room for is wrong for
-// every command, as is a word that is no number.
-pub fn read_numbers(line: &[u8], numbers: &mut [u32]) -> Option<usize> {
+// Reads the numbers after a command's word, up to a remark, and answers the part of the lent memory that they fill. More
+// than there is room for is wrong for every command, as is a word that is no number.
+pub fn read_numbers<'a>(line: &[u8], numbers: &'a mut [u32]) -> Option<&'a [u32]> {
     let words = line
         .split(|byte| is_blank(*byte))
         .filter(|word| !word.is_empty())
@@ -54,7 +54,7 @@ pub fn read_numbers(line: &[u8], numbers: &mut [u32]) -> Option<usize> {
         *numbers.get_mut(count)? = number_of(word)?;
         count += 1;
     }
-    Some(count)
+    Some(between(numbers, 0, count))
 }
 
 // The number that a word of digits means, if it fits 32 bits. `parse` would read a sign too.
