@@ -1,17 +1,13 @@
 // A script: lines read to the end of a file, each answered as soon as it is whole.
 use crate::answer::Sitting;
-use lines::{Console, TYPED, append, between, read_some, report_number};
+use arrayvec::ArrayVec;
+use lines::{Console, TYPED, append_what_fits, between, read_some, report_number};
 use room::{Lent, Room};
 use shown::help;
 use std::io::Read;
 
-// The line so far; None once it is too long.
-// Stays: no heap, so its length is a count of what is lent.
-#[derive(Drop)]
-struct Unfinished<'a> {
-    line: &'a mut [u8],
-    length: Option<usize>,
-}
+// The line so far. It has room for one byte more than a line may have: once it is full, the line is too long.
+type Unfinished = ArrayVec<u8, 65537>;
 
 pub fn script<R: Read>(console: &Console, from: &mut R, watched: bool) {
     let mut board = [0u8; 40000];
@@ -46,20 +42,16 @@ pub fn script<R: Read>(console: &Console, from: &mut R, watched: bool) {
 impl Sitting<'_> {
     // The last line may lack its line feed; after quit, and where it doesn't, none of it is left.
     fn read_all<R: Read>(&mut self, console: &Console, from: &mut R) {
-        let mut line = [0u8; 65536];
-        let mut unfinished = Unfinished {
-            line: &mut line,
-            length: Some(0),
-        };
-        self.read_chunks(console, from, &mut unfinished);
-        self.end_line(console, &mut unfinished);
+        let mut line = Unfinished::new();
+        self.read_chunks(console, from, &mut line);
+        self.end_line(console, &mut line);
     }
 
     // Nothing says that input ends, so the loop has a number of turns that no run uses up.
     fn read_chunks<R: Read>(&mut self, console: &Console, from: &mut R, line: &mut Unfinished) {
         let mut chunk = [0u8; 65536];
         for _ in 0..u64::MAX {
-            self.prompt(console, line.length);
+            self.prompt(console, line.is_empty());
             let count = read_some(console, from, &mut chunk);
             self.feed(console, line, between(&chunk, 0, count));
             if count == 0 || self.ended {
@@ -69,8 +61,8 @@ impl Sitting<'_> {
     }
 
     // A person is asked for each line.
-    fn prompt(&self, console: &Console, length: Option<usize>) {
-        if length == Some(0) && self.room.watched {
+    fn prompt(&self, console: &Console, at_its_start: bool) {
+        if at_its_start && self.room.watched {
             print!(console; "> ");
         }
     }
@@ -79,9 +71,7 @@ impl Sitting<'_> {
     fn feed(&mut self, console: &Console, line: &mut Unfinished, bytes: &[u8]) {
         for piece in bytes.split_inclusive(|byte| *byte == b'\n') {
             let whole = piece.strip_suffix(b"\n");
-            if let Some(length) = line.length {
-                line.length = append(line.line, length, whole.unwrap_or(piece));
-            }
+            append_what_fits(line, whole.unwrap_or(piece));
             if whole.is_some() {
                 self.end_line(console, line);
             }
@@ -92,20 +82,17 @@ impl Sitting<'_> {
     }
 
     fn end_line(&mut self, console: &Console, line: &mut Unfinished) {
-        let length = line.length;
-        line.length = Some(0);
         self.lines = self.lines.wrapping_add(1);
-        match length {
-            None => {
-                println!(console; "not understood; a line has at most 65536 bytes");
-                self.miss(console);
-            }
-            Some(length) if self.room.watched && TYPED <= length => {
-                print!(console; "not understood; a terminal cuts a line after 4095 bytes: ");
-                println!(console; "use more, or a script");
-                self.miss(console);
-            }
-            Some(length) => self.answer(console, between(line.line, 0, length)),
+        if line.is_full() {
+            println!(console; "not understood; a line has at most 65536 bytes");
+            self.miss(console);
+        } else if self.room.watched && TYPED <= line.len() {
+            print!(console; "not understood; a terminal cuts a line after 4095 bytes: ");
+            println!(console; "use more, or a script");
+            self.miss(console);
+        } else {
+            self.answer(console, line.as_slice());
         }
+        line.clear();
     }
 }

@@ -1,9 +1,9 @@
 // A line as it comes in.
-ghost use Rattle.std.specs.Prelude.{◌≡◌, ◌+◌, ◌<◌, IsSome, MatchOption, length};
-ghost use Rattle.std.specs.List.{splice};
+ghost use Rattle.std.specs.Prelude.{◌≡◌, ◌++◌, take};
 
 use crate::console::Console;
 use crate::writing::report;
+use arrayvec::ArrayVec;
 use std::io::{IsTerminal, Read};
 
 // The most that a terminal hands over of one line; it drops the rest without a word.
@@ -35,17 +35,10 @@ pub fn is_person(console: &Console) -> bool {
     console.input.is_terminal() && console.output.is_terminal()
 }
 
-// Bytes put to the end of a line; answers its length, None where there is no room for all of them.
-pub fn append(line: &mut [u8], filled: usize, bytes: &[u8]) -> Option<usize>
-    ensures longer { MatchOption result (length line.old < filled + length bytes.now)
-        (λ to. to ≡ filled + length bytes.now) }
-    ensures written { IsSome result
-        → line.new ≡ splice line.old filled (filled + length bytes.now) bytes.now }
+// Puts bytes to the end of a line, as many as there is room for.
+pub fn append_what_fits<const MOST: usize>(line: &mut ArrayVec<u8, MOST>, bytes: &[u8])
+    ensures { line.new.items ≡ take MOST (line.old.items ++ bytes.now) }
 {
-    let to = filled.checked_add(bytes.len())?;
-    if line.len() < to {
-        return None;
-    }
-    line[filled..to].copy_from_slice(bytes);
-    Some(to)
+    let count = bytes.len().min(line.remaining_capacity());
+    let _ = line.try_extend_from_slice(&bytes[..count]);
 }

@@ -9,7 +9,7 @@ mod reading;
 mod writing;
 
 pub use console::Console;
-pub use incoming::{TYPED, append, asked_to_stop, is_person, read_some};
+pub use incoming::{TYPED, append_what_fits, asked_to_stop, is_person, read_some};
 pub use lent::{byte, fill, put_rules, put_sizes, set_byte, two_bytes};
 pub use reading::{Stretch, at, between, end_of, read_numbers};
 pub use writing::{Counted, Spaced, report, report_number, text};
