@@ -5,7 +5,6 @@ ghost use Rattle.std.specs.Prelude.{◌≡◌, ℕ, ◌+◌, ◌<◌, ◌≤◌,
 ghost use Rattle.search.specs.Inner.Placed.{kept_before, edge_bytes, masks_with};
 
 // The masks, made whole: with the bit of an option for which a build was found.
-// Stays: public (docs/CONTRACTS.md), with numbers of any size: a type of those below 16 would ask more.
 pub fn masks_after(masks: [u16; 16], feature: u8, option: u8, found: bool) -> [u16; 16]
     requires { (feature < 16) × (option < 16) }
     ensures { result ≡ masks_with found feature option masks }

@@ -44,7 +44,6 @@ fn has_rule(accepted: &Accepted, number: u8) -> bool
     let rules = accepted.catalogue.rules;
     let mut left = number;
     let mut place = 0;
-    // Stays: rules differ in width, and so the place goes on by each rule's own; `for` would have to count what is read.
     while place < rules.len() {
         if left == 0 {
             return true;
@@ -149,7 +148,6 @@ fn trial_fits(trial: &[u8; 16], depth: usize, sizes: &[u8]) -> bool
 }
 
 // No early exit, so that the entries of a seat that is not at work, all of them from depth 0 on, are compared at once.
-// Stays: `all`, as for those that are placed, ends at the first that differs, and would compare one by one.
 fn rest_empty(trial: &[u8; 16], depth: usize) -> bool
     ensures { result ≡ every_below 16 (rest_fits depth trial.now) }
 {

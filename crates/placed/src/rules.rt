@@ -28,7 +28,7 @@ pub fn test(rules: &[u16], j: usize, starts: &[u16], numbers: &[u8], placed: &[u
 // Notes which rules are tested at each feature, in one walk over the list: where they begin, 64 places a feature; how many
 // they are, sixteen counts; and after these their numbers, 64 a feature again. Both are lent, so that they are written where
 // they are read.
-// Stays: no plainer by `for`, since each rule's own head says where the next begins.
+// Stays: two arrays. Numbers beside the places would make one of above 2,048 bytes, which is filled slowly (docs/DECISIONS.md).
 pub fn starts_of(rules: &[u16], places: &mut [u16; 1024], counts: &mut [u8; 1040])
     requires rules_whole { (whole_rules 64 rules.now ≡ true) × (length rules.now ≤ 8192) }
     requires room_for_starts { (length places.old ≡ 1024) × (counts.old ≡ replicate 1040 0) }

@@ -24,7 +24,7 @@ impl Room {
 }
 
 // Answers with the parts of what is lent that are in use, and hands back the desk.
-// Stays: three slices. Tried with a Lent, and the proof didn't close: slices of two of its fields can't be lent at once.
+// Stays: three slices. Tried with a Lent, and the proof didn't close where one field is lent to be written, others to be read.
 fn answer(
     console: &Console,
     room: Room,

@@ -15,7 +15,7 @@ const TROLLEY_RULES: [u32; 24] = [
 
 impl Room {
     // The start state.
-    // Stays: a closed desk by hand is plainer than an `open`, which would check a catalogue first.
+    // Stays: a closed desk is two lines here and in desk, whose function for it is private; a public one is no plainer.
     pub fn trolley(lent: &mut Lent, watched: bool) -> Room {
         fill(lent.board, 32768, 255);
         Room {

@@ -6,7 +6,6 @@ ghost use Rattle.search.specs.Step.{started};
 
 use search::{Place, State};
 
-// Stays: this and next_candidate are public (docs/CONTRACTS.md), with slices: a type asks more. `started` hands its on.
 pub fn first_candidate(sizes: &[u8], choices: &[u8], i: usize, a: u8, j: usize) -> u8
     requires { (length choices.now ≡ 16) × (j < 16) × (1 ≤ get_or sizes.now j 0) }
     ensures { result ≡ first_candidate sizes.now choices.now i a j }

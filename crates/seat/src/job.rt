@@ -11,7 +11,6 @@ use runs::Asking;
 use search::{Seat, State};
 
 // What an accepted asking makes of a clinic: it posts a job, it leaves, or it reads and changes nothing.
-// Stays: public (docs/CONTRACTS.md), with slices of any length: a type would ask more. post, post_with, close get them.
 pub fn clinic_after(asking: Asking, seat: Seat, share: &mut [u8], sizes: &[u8]) -> Seat
     requires lent_whole { (length share.old ≡ 4096) × (1 ≤ get_or sizes.now 0 0) }
     requires placeable { Placeable asking × HaveBits seat.choices }

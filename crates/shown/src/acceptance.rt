@@ -36,7 +36,7 @@ pub fn turns_made(console: &Console, made: u16, working: bool) {
 }
 
 // Which rule the search of a seat ran into last; 255 is none.
-// Stays: the C interface: the record's byte, which C reads, has it so.
+// Stays: a byte, since `Ran` of runs has it so, and `RanAs` holds that answer.
 pub fn rule_met(console: &Console, seat: u32, rule: u8) {
     if rule == 255 {
         print!(console; "seat {seat} has run into no rule");

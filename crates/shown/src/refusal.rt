@@ -20,7 +20,7 @@ pub struct Lengths {
     pub rules: usize,
 }
 
-// Stays: the C interface: a call's answer has its refusal as a number, which C reads.
+// Stays: a number, since the answers of the desk's calls have one (`Changed` and the others of runs, held by `ChangesTo`).
 pub fn refused(console: &Console, number: u8, lengths: Lengths, asked: Asked) {
     print!(console; "refused {number}: ");
     if let Ok(refusal) = Refusal::try_from(number) {

@@ -41,7 +41,6 @@ pub struct After {
 }
 
 // One step: record and share of the written search after it. A seat that is not at work makes none.
-// Stays: step_in is public (docs/CONTRACTS.md), with any Seat and slice: a type that holds `StepNeeds` would ask more.
 pub fn step(seat: Seat, share: &mut [u8], basis: &Basis) -> Seat
     requires { StepNeeds basis.now seat share.old }
     ensures { Stepped (catalogue_in basis.now)
