@@ -1,5 +1,5 @@
 // Words and numbers in bytes. Every place is held to what is there, so no caller has to show that it is.
-ghost use Rattle.std.specs.Prelude.{◌≡◌, ◌≤◌, length, min, slice_range};
+ghost use Rattle.std.specs.Prelude.{◌≡◌, ◌≤◌, IfSome, length, min, slice_range};
 
 // What stands from one place up to another.
 pub fn between<T>(all: &[T], from: usize, to: usize) -> &[T]
@@ -44,7 +44,9 @@ pub fn end_of(all: &[u8], from: usize, stretch: Stretch) -> usize
 
 // Reads the numbers after a command's word, up to a remark, and answers the part of the lent memory that they fill. More
 // than there is room for is wrong for every command, as is a word that is no number.
-pub fn read_numbers<'a>(line: &[u8], numbers: &'a mut [u32]) -> Option<&'a [u32]> {
+pub fn read_numbers<'a>(line: &[u8], numbers: &'a mut [u32]) -> Option<&'a [u32]>
+    ensures { IfSome result (λ part. length part.now ≤ length numbers.old) }
+{
     let words = line
         .split(|byte| is_blank(*byte))
         .filter(|word| !word.is_empty())

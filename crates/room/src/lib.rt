@@ -14,7 +14,8 @@ mod work;
 use desk::Desk;
 
 // The lent memory has room for more than is in use: a board of `board_length` bytes, and so on.
-// Stays: no heap, so a list in use is a count of what is lent.
+// Stays: counts beside what is lent, and no ArrayVec: `obey` and `trolley` may not change, they take lists of any length, and
+// only the program calls them.
 #[derive(Clone, Copy)]
 pub struct Room {
     pub desk: Desk,
