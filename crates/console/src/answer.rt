@@ -20,7 +20,7 @@ enum Line<'a> {
     Nothing,
     Unknown,
     Misused(Form),
-    Command(usize, &'a [u32]), // and its numbers
+    Command(Form, &'a [u32]), // and its numbers
 }
 
 impl Sitting<'_> {
@@ -38,16 +38,16 @@ impl Sitting<'_> {
                 println!(console);
                 self.miss(console);
             }
-            Line::Command(command, given) => self.obey(console, command, given),
+            Line::Command(form, given) => self.obey(console, form, given),
         }
     }
 
-    fn obey(&mut self, console: &Console, command: usize, numbers: &[u32]) {
+    fn obey(&mut self, console: &Console, form: Form, numbers: &[u32]) {
         let mut room = self.room;
-        room.obey(console, &mut self.lent, command, numbers);
+        room.obey(console, &mut self.lent, form.command, numbers);
         self.room = room;
         self.answered = self.answered.wrapping_add(1);
-        self.ended = ends(command);
+        self.ended = ends(form);
     }
 
     // A line that is not understood is reported and counted.
@@ -57,9 +57,9 @@ impl Sitting<'_> {
     }
 }
 
-fn ends(command: usize) -> bool {
+fn ends(form: Form) -> bool {
     matches!(
-        Command::try_from(command),
+        Command::try_from(form.command),
         Ok(Command::Quit | Command::Exit)
     )
 }
@@ -85,16 +85,16 @@ fn read<'a>(console: &Console, room: Room, line: &[u8], numbers: &'a mut [u32]) 
 
 fn read_command<'a>(room: Room, form: Form, rest: &[u8], numbers: &'a mut [u32]) -> Line<'a> {
     match read_numbers(rest, numbers) {
-        Some(given) if takes(form, given) && has_place(room, form.command, given) => {
-            Line::Command(form.command, given)
+        Some(given) if takes(form, given) && has_place(room, form, given) => {
+            Line::Command(form, given)
         }
         _ => Line::Misused(form),
     }
 }
 
 // Whether the board has the place and the rule list room for more.
-fn has_place(room: Room, command: usize, numbers: &[u32]) -> bool {
-    match Command::try_from(command) {
+fn has_place(room: Room, form: Form, numbers: &[u32]) -> bool {
+    match Command::try_from(form.command) {
         Ok(Command::Supply(Supply::SetByte)) => (at(numbers, 0) as usize) < room.board_length,
         Ok(Command::Supply(Supply::More)) => numbers.len() <= 9000 - room.rules_count.min(9000),
         _ => true,

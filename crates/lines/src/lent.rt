@@ -42,13 +42,14 @@ fn put<T: Copy, F: Fn(u32) -> T>(list: &mut [T], from: usize, numbers: &[u32], a
 
 // A number's low byte. A line's number is no greater where a byte is wanted, `commands::takes` sees to that; it is cut here
 // so that no caller has to show it.
+// Stays: no plainer by `try_from`, which would have to answer for numbers that don't come.
 pub fn byte(n: u32) -> u8
     ensures { result ≡ n % 256 }
 {
     (n % 256) as u8
 }
 
-// A number's two low bytes, cut for the same reason.
+// A number's two low bytes, cut for the same reason, and stays so for it.
 pub fn two_bytes(n: u32) -> u16
     ensures { result ≡ n % 65536 }
 {

@@ -59,7 +59,8 @@ pub fn read_numbers<'a>(line: &[u8], numbers: &'a mut [u32]) -> Option<&'a [u32]
     Some(between(numbers, 0, count))
 }
 
-// The number that a word of digits means, if it fits 32 bits. `parse` would read a sign too.
+// The number that a word of digits means, if it fits 32 bits.
+// Stays: the program does what it did: `parse` would read a sign too.
 fn number_of(word: &[u8]) -> Option<u32> {
     let mut value = 0u32;
     for byte in word {

@@ -70,11 +70,9 @@ pub fn options_of_feature(console: &Console, left: Left, feature: u32, what: &st
 }
 
 fn example(console: &Console, parts: &Parts, asked: Asked) {
-    let refusal = parts.example_number(asked);
-    if refusal == 0 {
-        print!(console; "option {} of feature {}:", asked.option, asked.feature);
-    } else {
-        refused(console, refusal, parts.lengths(), asked);
+    match parts.no_example(asked) {
+        None => print!(console; "option {} of feature {}:", asked.option, asked.feature),
+        Some(refusal) => refused(console, refusal.number(), parts.lengths(), asked),
     }
     println!(console; "{}", Spaced::entries(parts.example(asked)));
 }

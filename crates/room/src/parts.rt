@@ -51,11 +51,13 @@ impl Parts<'_> {
         desk::alternatives(self.desk, self.board, &self.catalogue, c, i)
     }
 
-    pub fn example_number(&self, asked: Asked) -> u8 {
+    // Why there is no example, if there is none; by the desk's second call for it.
+    pub fn no_example(&self, asked: Asked) -> Option<Refusal> {
         let c = asked.seat as usize;
         let i = asked.feature as usize;
         let a = asked.option as usize;
-        desk::example_number(self.desk, self.board, &self.catalogue, c, i, a)
+        let number = desk::example_number(self.desk, self.board, &self.catalogue, c, i, a);
+        Refusal::try_from(number).ok()
     }
 
     pub fn example(&self, asked: Asked) -> &[u8] {
