@@ -1,13 +1,12 @@
 // The fault met first: one function for each part of the reading, one walk each.
 ghost use Rattle.std.specs.Prelude.{◌≡◌, ℕ, [], ◌≤◌, ◌<◌, ◌*◌, length};
 ghost use Rattle.numbers.specs.Refusal.{refusal_number};
-ghost use Rattle.builds.specs.Lists.{Every};
 ghost use Rattle.builds.specs.Fault.{sizes_fault, features_fault, row_fits, rows_fault, rule_fault, rules_fault, fault_of};
 ghost use Rattle.builds.specs.Catalogue.{arity, width};
 ghost use Rattle.catalogue.specs.Lent.{catalogue_lent};
 
 use crate::lent::Catalogue;
-use numbers::Refusal;
+use numbers::{Refusal, size_at};
 
 impl Catalogue<'_> {
     // 10 to 18, or none.
@@ -78,7 +77,7 @@ fn rule_fault(sizes: &[u8], list: &[u16]) -> Result<(), Refusal>
         return Err(Refusal::RuleListEndsEarly);
     }
     let end = body + room;
-    rows_fault(sizes, features, &list[body..end])
+    rows_fault(sizes, features, &list[body..end], m)
 }
 
 // How many numbers the rule at the front of the list takes.
@@ -105,29 +104,32 @@ fn features_fault(count: usize, features: &[u16]) -> Result<(), Refusal>
     Ok(())
 }
 
-fn rows_fault(sizes: &[u8], features: &[u16], rows: &[u16]) -> Result<(), Refusal>
-    requires some { 0 < length features.now }
-    requires known { Every (λ (f : ℕ). f < length sizes.now) features.now }
-    ensures { (count : ℕ) → length features.now * count ≡ length rows.now
-        → refusal_number result ≡ rows_fault sizes.now features.now count rows.now }
+// As many rows as the rule says, cut off one by one: `chunks_exact` would divide to find how many there are. Not inlined:
+// that is faster where rows are many (docs/DESIGN-PASS.md).
+#[inline(never)]
+fn rows_fault(sizes: &[u8], features: &[u16], rows: &[u16], count: usize) -> Result<(), Refusal>
+    requires { length features.now * count ≡ length rows.now }
+    ensures { refusal_number result ≡ rows_fault sizes.now features.now count rows.now }
 {
-    for row in rows.chunks_exact(features.len()) {
-        if !row_fits(sizes, features, row) {
+    let mut rest = rows;
+    for passed in 0..count {
+        if !row_fits(sizes, features, &rest[..features.len()]) {
             return Err(Refusal::RowOptionTooHigh);
         }
+        rest = &rest[features.len()..];
     }
     Ok(())
 }
 
-// Each option below the size of its feature. A row has six at most: none is skipped, which is faster than to leave early.
+// Each option below the size of its feature.
 fn row_fits(sizes: &[u8], features: &[u16], row: &[u16]) -> bool
-    requires long { length row.now ≡ length features.now }
-    requires known { Every (λ (f : ℕ). f < length sizes.now) features.now }
+    requires { length row.now ≡ length features.now }
     ensures { result ≡ row_fits sizes.now features.now row.now }
 {
-    let mut fits = true;
     for (i, feature) in features.iter().enumerate() {
-        fits &= row[i] < u16::from(sizes[usize::from(*feature)]);
+        if size_at(sizes, usize::from(*feature)) <= usize::from(row[i]) {
+            return false;
+        }
     }
-    fits
+    true
 }

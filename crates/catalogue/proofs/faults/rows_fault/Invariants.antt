@@ -4,7 +4,6 @@ use Prim.Native.Nat.{ℕ, ◌-◌, ◌*◌}
 use mathlib.Core.Path.{◌≡◌}
 use mathlib.Core.List.{List}
 use lib.ListN.{length}
-use Rattle.std.specs.Slice.Iter.{chunks_exact_rest, chunks_exact_size}
 use Rattle.builds.specs.Fault.{rows_fault}
 use Rattle.catalogue.proofs.faults.rows_fault.Given as goal
 
@@ -12,9 +11,5 @@ pub record RowsLeft (sizes fs rows rest : List ℕ) (count left : ℕ) : Type 0 
   pub so_many : length fs * left ≡ length rest
   pub same_fault : rows_fault sizes fs count rows ≡ rows_fault sizes fs left rest
 
-abbrev pub invariant-loop-row : goal.invariant-loop-row
-invariant-loop-row l = record {
-  row_width : chunks_exact_size l.row-iterator ≡ length l.features;
-  rows_left : (count : ℕ) → length l.features * count ≡ length l.rows
-      → RowsLeft l.sizes l.features l.rows (chunks_exact_rest l.row-iterator) count (count - length l.yielded);
-}
+abbrev pub invariant-loop-passed : goal.invariant-loop-passed
+invariant-loop-passed l = RowsLeft l.sizes l.features l.rows l.rest l.count (l.count - l.passed)

@@ -11,7 +11,6 @@ use Rattle.numbers.specs.Refusal.{number_of}
 use Rattle.builds.specs.Catalogue.{arity, row_count, rows_begin, features_read}
 use Rattle.builds.specs.Fault.{rule_fault, features_fault, rows_fault}
 use Rattle.builds.proofs.Alone.{rows_alone}
-use Rattle.builds.proofs.Format.Features.{features_read_lem}
 use Rattle.builds.proofs.ListWalks.{last_row}
 use Rattle.catalogue.proofs.Walks.{refused_first}
 use Rattle.catalogue.proofs.faults.rule_fault.Goals as goal
@@ -137,9 +136,8 @@ returns-then-list-body c =
     let none = features_are c.args.sizes.now c.args.list.now c.from-k.result 0 c.from-k.ensures c.in_ok-features_fault.ensures in
     sym (no_rows c.args.sizes.now c.args.list.now readable (sym none) (omega (arith, room_is)))
 
--- features without a fault are all in the catalogue
-pub rows_fault-requires-clause-known : goal.rows_fault-requires-clause-known
-rows_fault-requires-clause-known c = (features_read_lem _ [] _ (sym c.in_ok-features_fault.ensures)).known
+pub rows_fault-requires : goal.rows_fault-requires
+rows_fault-requires c = rows_cut c.args.list.now c.from-k.result c.from-m.result (omega arith) (omega arith)
 
 pub returns : goal.returns
 returns c =
@@ -148,5 +146,5 @@ returns c =
     let none = features_are c.args.sizes.now c.args.list.now c.from-k.result 0 c.from-k.ensures c.in_ok-features_fault.ensures in
     let k = c.from-k.result in let m = c.from-m.result in
     rows_read_lem c.args.sizes.now c.args.list.now k m (2 + k + k * m - (2 + k)) _
-    c.from-k.ensures c.from-m.ensures (omega arith) (omega arith) (c.rows_fault.ensures m (rows_cut c.args.list.now k m (omega arith) (omega arith)))
+    c.from-k.ensures c.from-m.ensures (omega arith) (omega arith) c.rows_fault.ensures
     ∙ sym (rows_left c.args.sizes.now c.args.list.now readable (sym none) (omega (arith, room_is)))
