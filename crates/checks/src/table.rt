@@ -149,6 +149,9 @@ fn row(listed: &[Refusal], refusal: Refusal, condition: bool) -> Result<(), Refu
 fn desk_fits(desk: Desk, accepted: &Accepted) -> bool
     ensures { result ≡ desk_fits (catalogue_lent accepted.now.catalogue) desk }
 {
-    let seats = desk.seats;
-    desk.next <= 7 && seats.iter().all(|seat| fit::seat_fits(*seat, accepted))
+    desk.next <= 7
+        && desk
+            .seats
+            .iter()
+            .all(|seat| fit::seat_fits(*seat, accepted))
 }
