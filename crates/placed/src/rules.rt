@@ -57,11 +57,8 @@ pub fn starts_of(rules: &[u16], places: &mut [u16; 1024], counts: &mut [u8; 1040
 fn highest(features: &[u16]) -> usize
     ensures { result ≡ highest features.now }
 {
-    features
-        .iter()
-        .map(|feature| usize::from(*feature))
-        .max()
-        .unwrap_or(0)
+    let numbers = features.iter().map(|feature| usize::from(*feature));
+    numbers.max().unwrap_or(0)
 }
 
 // Whether what is placed satisfies the rule at the front of the list.

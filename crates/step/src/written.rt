@@ -8,7 +8,8 @@ ghost use Rattle.search.specs.Candidates.{chosen_otherwise};
 ghost use Rattle.search.specs.Clinic.{clinic_of};
 ghost use Rattle.search.specs.Step.{given_up, tried, started, after_pair, broken_after, step_at};
 ghost use Rattle.search.specs.Inner.Placed.{kept_before, PlacedAt};
-ghost use Rattle.step.specs.Inner.StepContracts.{tried_of, depth_in, catalogue_in, StepNeeds, Stepped, TryNeeds, ComesTo};
+ghost use Rattle.step.specs.Inner.StepContracts.{tried_of, depth_in, shows_left, shows_alternative, catalogue_in};
+ghost use Rattle.step.specs.Inner.StepContracts.{StepNeeds, Stepped, TryNeeds, ComesTo};
 
 use crate::basis::Basis;
 use arrays::{masks_after, trial_after};
@@ -30,6 +31,22 @@ pub enum Shown {
     Nothing, // no build was found
     Left, // it is left, and the build that was found was written as its example
     Alternative, // it could replace the choice of its feature, and no example was written
+}
+
+impl Shown {
+    // Whether the option gets the bit of one that is left.
+    fn is_left(self) -> bool
+        ensures { result ≡ shows_left self }
+    {
+        matches!(self, Shown::Left)
+    }
+
+    // Whether it gets the bit of an alternative.
+    fn is_alternative(self) -> bool
+        ensures { result ≡ shows_alternative self }
+    {
+        matches!(self, Shown::Alternative)
+    }
 }
 
 // What a step comes to: the state after it, the depth before which options stay placed, and what it shows.
@@ -73,8 +90,8 @@ fn step_at(seat: Seat, place: Place, share: &mut [u8], basis: &Basis) -> Seat
     let tested = tested_at(j, build, basis);
     let after = after_step(place, tested, &choices, build, share, basis);
     let state = after.state;
-    let left = after.shown == Shown::Left;
-    let alternative = after.shown == Shown::Alternative;
+    let left = after.shown.is_left();
+    let alternative = after.shown.is_alternative();
     Seat {
         state,
         choices,

@@ -22,8 +22,8 @@ returns c =
     let features = c.args.features.now in
     c.unwrap_or.ensures
     ∙ ap (λ o. unwrap_or o 0)
-    (reduce_from_yields_List _ c.map.result _ c.max.ensures.ran
-    (YieldsList-from_map _ (λ x. x) (YieldsList-from_slice features cc) c.map.ensures.closure (λ x b q k. search rules)))
+    (reduce_from_yields_List _ c.map-numbers.result _ c.max.ensures.ran
+    (YieldsList-from_map _ (λ x. x) (YieldsList-from_slice features cc) c.map-numbers.ensures.closure (λ x b q k. search rules)))
     ∙ max_of_map (λ (x : ℕ). x) features
     ∙ greatest 0 features
     ∙ omega arith

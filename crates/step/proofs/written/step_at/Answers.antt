@@ -12,11 +12,7 @@ use Rattle.search.specs.declared.Place.{Place}
 use Rattle.search.specs.Clinic.{Clinic, clinic_of, with_broken}
 use Rattle.search.specs.Step.{search_at, test_at, broken_after, step_at}
 use Rattle.search.proofs.FitsInWords.{fits_place}
-use denote.Enum.Bare.{sameb}
-use Rattle.step.specs.contracts.written.Shown.{the_type}
-use Rattle.step.specs.declared.written.Shown.{Shown}
-use Rattle.step.specs.declared.written.Shown.TheVariants.{Nothing, Left, Alternative}
-use Rattle.step.specs.Inner.StepContracts.{catalogue_in, shows_left, shows_alternative}
+use Rattle.step.specs.Inner.StepContracts.{catalogue_in}
 use Rattle.step.proofs.InPlace.{place_fits, shallow, pair_below, nothing_from_depth, trial_bytes, tried_there, placed_so, trial_under}
 use Rattle.step.proofs.written.step_at.Goals as goal
 
@@ -27,17 +23,6 @@ kept_so : (catalogue : Catalogue) (place : Place) (tested : Option ℕ) (clinic 
     → with_broken broken after ≡ step_at catalogue place clinic
 unfolding step_at
 kept_so catalogue place tested clinic after broken named came kept = rw (kept, named, came) refl
-
--- the code's comparisons are the two cases that set a bit
-left_shown : (shown : Shown) → sameb the_type shown Left ≡ shows_left shown
-left_shown Nothing = refl
-left_shown Left = refl
-left_shown Alternative = refl
-
-alternative_shown : (shown : Shown) → sameb the_type shown Alternative ≡ shows_alternative shown
-alternative_shown Nothing = refl
-alternative_shown Left = refl
-alternative_shown Alternative = refl
 
 pub bounds-placed-j : goal.bounds-placed-j
 bounds-placed-j c = shallow c.requires.needs c.requires.at_work
@@ -80,9 +65,7 @@ masks_after-requires-2 c = pair_below c.requires.needs c.requires.at_work
 pub returns : goal.returns
 returns c =
     let sixteen : length c.args.seat.trial ≡ 16 = search rules in
-    let left = c.eq-left.ensures ∙ left_shown c.after_step-after.result.shown in
-    let alternative = c.eq-alternative.ensures ∙ alternative_shown c.after_step-after.result.shown in
-    rw (c.masks_after.ensures, c.trial_after.ensures, c.masks_after-2.ensures, left, alternative)
+    rw (c.masks_after.ensures, c.trial_after.ensures, c.masks_after-2.ensures, c.is_left-left.ensures, c.is_alternative-alternative.ensures)
     (kept_so (catalogue_in c.args.basis.now) c.args.place c.tested_at-tested.result (clinic_of c.args.seat c.args.share.now) _ _
     c.tested_at-tested.ensures (c.after_step-after.ensures.comes_to c.args.seat refl (trial_under c.requires.needs c.requires.at_work sixteen))
     c.broken_after.ensures)
