@@ -36,10 +36,12 @@ pub fn end_of(all: &[u8], from: usize, stretch: Stretch) -> usize
     ensures { result ≤ length all.now }
 {
     let start = from.min(all.len());
-    all[start..]
-        .iter()
-        .position(|byte| !stretch.has(*byte))
-        .map_or(all.len(), |so_many| start + so_many)
+    for (passed, byte) in all[start..].iter().enumerate() {
+        if !stretch.has(*byte) {
+            return start + passed;
+        }
+    }
+    all.len()
 }
 
 // Reads the numbers after a command's word, up to a remark, and answers the part of the lent memory that they fill. More
@@ -47,16 +49,26 @@ pub fn end_of(all: &[u8], from: usize, stretch: Stretch) -> usize
 pub fn read_numbers<'a>(line: &[u8], numbers: &'a mut [u32]) -> Option<&'a [u32]>
     ensures { IfSome result (λ part. length part.now ≤ length numbers.old) }
 {
-    let words = line
-        .split(|byte| is_blank(*byte))
-        .filter(|word| !word.is_empty())
-        .take_while(|word| !word.starts_with(b"#"));
+    let mut rest = line;
     let mut count = 0usize;
-    for word in words {
+    for _ in 0..line.len() {
+        let Some((word, after)) = next_word(rest) else {
+            return Some(between(numbers, 0, count));
+        };
         *numbers.get_mut(count)? = number_of(word)?;
         count += 1;
+        rest = after;
     }
     Some(between(numbers, 0, count))
+}
+
+// The word that comes next, and what stands after it; none where only blanks are left, or a remark begins.
+fn next_word(line: &[u8]) -> Option<(&[u8], &[u8])> {
+    let words = &line[end_of(line, 0, Stretch::Blanks)..];
+    if words.is_empty() || words[0] == b'#' {
+        return None;
+    }
+    Some(words.split_at(end_of(words, 0, Stretch::Word)))
 }
 
 // The number that a word of digits means, if it fits 32 bits.
@@ -65,7 +77,7 @@ fn number_of(word: &[u8]) -> Option<u32> {
     let mut value = 0u32;
     for byte in word {
         let digit = char::from(*byte).to_digit(10)?;
-        value = value.checked_mul(10)?.checked_add(digit)?;
+        value = u32::try_from(u64::from(value) * 10 + u64::from(digit)).ok()?;
     }
     Some(value)
 }
