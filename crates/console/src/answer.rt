@@ -4,10 +4,9 @@ use lines::{Console, Stretch, at, between, end_of, read_numbers, report_number, 
 use room::{Lent, Room};
 
 // What has become of a script's lines.
-#[derive(Drop)]
-pub struct Sitting<'a> {
+#[derive(Clone, Copy)]
+pub struct Sitting {
     pub room: Room,
-    pub lent: Lent<'a>,
     pub lines: u64, // read so far, the one being answered included
     pub answered: u64,
     pub not_understood: u64,
@@ -23,10 +22,10 @@ enum Line<'a> {
     Command(Form, &'a [u32]), // and its numbers
 }
 
-impl Sitting<'_> {
-    pub fn answer(&mut self, console: &Console, line: &[u8]) {
-        let mut numbers = [0u32; 9000];
-        match read(console, self.room, line, &mut numbers) {
+impl Sitting {
+    // A line's numbers are put into the memory lent for them.
+    pub fn answer(&mut self, console: &Console, lent: &mut Lent, numbers: &mut [u32], line: &[u8]) {
+        match read(console, self.room, line, numbers) {
             Line::Nothing => {}
             Line::Unknown => {
                 println!(console; "not understood; help lists the commands");
@@ -38,14 +37,12 @@ impl Sitting<'_> {
                 println!(console);
                 self.miss(console);
             }
-            Line::Command(form, given) => self.obey(console, form, given),
+            Line::Command(form, given) => self.obey(console, lent, form, given),
         }
     }
 
-    fn obey(&mut self, console: &Console, form: Form, numbers: &[u32]) {
-        let mut room = self.room;
-        room.obey(console, &mut self.lent, form.command, numbers);
-        self.room = room;
+    fn obey(&mut self, console: &Console, lent: &mut Lent, form: Form, numbers: &[u32]) {
+        self.room.obey(console, lent, form.command, numbers);
         self.answered = self.answered.wrapping_add(1);
         self.ended = ends(form);
     }

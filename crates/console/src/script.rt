@@ -6,6 +6,14 @@ use room::{Lent, Room};
 use shown::help;
 use std::io::Read;
 
+// A script as it is read: what has become of its lines, and the memory that they are answered with.
+#[derive(Drop)]
+struct Reading<'a> {
+    sitting: Sitting,
+    lent: Lent<'a>,
+    numbers: &'a mut [u32], // room for those of one line, made once: a line has 9,000 at most
+}
+
 // The line so far. It has room for one byte more than a line may have: once it is full, the line is too long.
 type Unfinished = ArrayVec<u8, 65537>;
 
@@ -13,6 +21,7 @@ pub fn script<R: Read>(console: &Console, from: &mut R, watched: bool) {
     let mut board = [0u8; 40000];
     let mut sizes = [0u8; 64];
     let mut rules = [0u16; 9000];
+    let mut numbers = [0u32; 9000];
     let mut lent = Lent {
         board: &mut board,
         sizes: &mut sizes,
@@ -22,15 +31,19 @@ pub fn script<R: Read>(console: &Console, from: &mut R, watched: bool) {
         help::start(console);
     }
     let room = Room::trolley(&mut lent, watched);
-    let mut sitting = Sitting {
-        room,
+    let mut reading = Reading {
+        sitting: Sitting {
+            room,
+            lines: 0,
+            answered: 0,
+            not_understood: 0,
+            ended: false,
+        },
         lent,
-        lines: 0,
-        answered: 0,
-        not_understood: 0,
-        ended: false,
+        numbers: &mut numbers,
     };
-    sitting.read_all(console, from);
+    reading.read_all(console, from);
+    let sitting = reading.sitting;
     if watched && !sitting.ended {
         println!(console);
     }
@@ -39,7 +52,7 @@ pub fn script<R: Read>(console: &Console, from: &mut R, watched: bool) {
     report_number(console, b"end ", sitting.not_understood);
 }
 
-impl Sitting<'_> {
+impl Reading<'_> {
     // The last line may lack its line feed; after quit, and where it doesn't, none of it is left.
     fn read_all<R: Read>(&mut self, console: &Console, from: &mut R) {
         let mut line = Unfinished::new();
@@ -54,7 +67,7 @@ impl Sitting<'_> {
             self.prompt(console, line.is_empty());
             let count = read_some(console, from, &mut chunk);
             self.feed(console, line, between(&chunk, 0, count));
-            if count == 0 || self.ended {
+            if count == 0 || self.sitting.ended {
                 return;
             }
         }
@@ -62,7 +75,7 @@ impl Sitting<'_> {
 
     // A person is asked for each line.
     fn prompt(&self, console: &Console, at_its_start: bool) {
-        if at_its_start && self.room.watched {
+        if at_its_start && self.sitting.room.watched {
             print!(console; "> ");
         }
     }
@@ -75,23 +88,26 @@ impl Sitting<'_> {
             if whole.is_some() {
                 self.end_line(console, line);
             }
-            if self.ended {
+            if self.sitting.ended {
                 return;
             }
         }
     }
 
     fn end_line(&mut self, console: &Console, line: &mut Unfinished) {
-        self.lines = self.lines.wrapping_add(1);
+        self.sitting.lines = self.sitting.lines.wrapping_add(1);
         if line.is_full() {
             println!(console; "not understood; a line has at most 65536 bytes");
-            self.miss(console);
-        } else if self.room.watched && TYPED <= line.len() {
-            print!(console; "not understood; a terminal cuts a line after 4095 bytes: ");
-            println!(console; "use more, or a script");
-            self.miss(console);
+            self.sitting.miss(console);
+        } else if self.sitting.room.watched && TYPED <= line.len() {
+            println!(console;
+                "not understood; a terminal cuts a line after 4095 bytes: use more, or a script"
+            );
+            self.sitting.miss(console);
         } else {
-            self.answer(console, line.as_slice());
+            let numbers = &mut *self.numbers;
+            self.sitting
+                .answer(console, &mut self.lent, numbers, line.as_slice());
         }
         line.clear();
     }
