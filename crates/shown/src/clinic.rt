@@ -1,4 +1,6 @@
 // Looking at a seat's record and at a share of the board.
+ghost use Rattle.std.specs.Prelude.{◌≤◌};
+
 use lines::{Console, Spaced, between};
 use search::{Place, Seat, State};
 use std::fmt;
@@ -81,18 +83,21 @@ fn examples(console: &Console, share: &[u8]) -> usize {
     let (records, _) = share.as_chunks::<16>();
     let mut count = 0usize;
     for (k, record) in records.iter().enumerate() {
-        if *record != [255; 16] {
-            example(console, k, record);
-            count += 1;
-        }
+        count += example(console, k, record);
     }
     count
 }
 
-// Writes example k of a share.
-fn example(console: &Console, k: usize, bytes: &[u8]) {
+// Writes example k of a share, unless it is all 255; answers 1 for one, 0 for none.
+fn example(console: &Console, k: usize, bytes: &[u8; 16]) -> usize
+    ensures { result ≤ 1 }
+{
+    if *bytes == [255; 16] {
+        return 0;
+    }
     let feature = k / 16;
     let option = k % 16;
     let entries = Spaced::entries(bytes);
     println!(console; "option {option} of feature {feature}:{entries}");
+    1
 }

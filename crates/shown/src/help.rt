@@ -1,5 +1,5 @@
 // What the console says of itself.
-use lines::Console;
+use lines::{Console, text};
 
 const START: &str = "Nethazel: a configurator desk for eight clinics. Each sits at a seat, 0 to 7,
 chooses options of a product, and sees exactly the options that still fit some
@@ -62,9 +62,9 @@ commas between.
 
 // For a person who has just sat down.
 pub fn start(console: &Console) {
-    console.print(START);
+    text(console, START.as_bytes());
 }
 
 pub fn help(console: &Console) {
-    console.print(HELP);
+    text(console, HELP.as_bytes());
 }
