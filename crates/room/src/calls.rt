@@ -1,19 +1,34 @@
 // The desk's calls, and what they are answered by.
+ghost use Rattle.std.specs.Prelude.{◌≡◌};
+ghost use Rattle.lines.specs.declared.commands.Change.TheVariants.{Open};
+
 use crate::parts::Parts;
-use desk::Left;
+use desk::{Changed, Desk, Left};
 use lines::commands::{Change, Question};
 use lines::{Console, Spaced, two_bytes};
 use shown::{Asked, Lengths, accepted, beside, options_of, refused, rule_met, turns_made};
 
-// A refused open hands back a closed desk, which is not kept; any other call the desk as it came.
 pub fn change(console: &Console, parts: &mut Parts, change: Change, asked: Asked) {
     let changed = parts.change(change, asked);
+    parts.desk = kept(parts.desk, change, changed);
     if changed.number == 0 {
-        parts.desk = changed.desk;
         accepted(console, change, asked);
     } else {
         refused(console, changed.number, parts.lengths(), asked);
         println!(console);
+    }
+}
+
+// A refused open hands back a closed desk, which is not kept; any other call the desk as it came, and that is kept.
+fn kept(before: Desk, change: Change, changed: Changed) -> Desk
+    ensures accepted { changed.number ≡ 0 → result ≡ changed.desk }
+    ensures handed_back { (change ≡ Open → ⊥) → result ≡ changed.desk }
+    ensures refused_open { (changed.number ≡ 0 → ⊥) → change ≡ Open → result ≡ before }
+{
+    if changed.number != 0 && matches!(change, Change::Open) {
+        before
+    } else {
+        changed.desk
     }
 }
 
