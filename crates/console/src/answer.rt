@@ -28,7 +28,7 @@ impl Sitting {
         match read(console, self.room, line, numbers) {
             Line::Nothing => {}
             Line::Unknown => {
-                println!(console; "not understood; help lists the commands");
+                print!(console; "not understood; help lists the commands\n");
                 self.miss(console);
             }
             Line::Misused(form) => {

@@ -58,7 +58,7 @@ fn file(rt: &HostRuntime, console: &Console, name: &[u8]) {
             script(console, &mut from, false);
         }
         None => {
-            println!(console; " can't be read");
+            print!(console; " can't be read\n");
             report(console, b"unread\n");
         }
     }

@@ -48,7 +48,7 @@ pub fn script<R: Read>(console: &Console, from: &mut R, watched: bool) {
         println!(console);
     }
     print!(console; "end: {} answered, ", sitting.answered);
-    println!(console; "{} not understood", sitting.not_understood);
+    print!(console; "{} not understood\n", sitting.not_understood);
     report_number(console, b"end ", sitting.not_understood);
 }
 
@@ -97,11 +97,11 @@ impl Reading<'_> {
     fn end_line(&mut self, console: &Console, line: &mut Unfinished) {
         self.sitting.lines = self.sitting.lines.wrapping_add(1);
         if line.is_full() {
-            println!(console; "not understood; a line has at most 65536 bytes");
+            print!(console; "not understood; a line has at most 65536 bytes\n");
             self.sitting.miss(console);
         } else if self.sitting.room.watched && TYPED <= line.len() {
-            println!(console;
-                "not understood; a terminal cuts a line after 4095 bytes: use more, or a script"
+            print!(console;
+                "not understood; a terminal cuts a line after 4095 bytes: use more, or a script\n"
             );
             self.sitting.miss(console);
         } else {

@@ -4,7 +4,7 @@ ghost use Rattle.std.specs.Prelude.{◌≡◌, ◌≤◌, ◌%◌};
 use crate::console::Console;
 
 pub fn set_byte(console: &Console, board: &mut [u8], place: u32, value: u32) {
-    println!(console; "set");
+    print!(console; "set\n");
     if let Some(entry) = board.get_mut(place as usize) {
         *entry = byte(value);
     }

@@ -12,4 +12,4 @@ pub use console::Console;
 pub use incoming::{TYPED, append_what_fits, asked_to_stop, is_person, read_some};
 pub use lent::{byte, fill, put_rules, put_sizes, set_byte, two_bytes};
 pub use reading::{Stretch, at, between, end_of, read_numbers};
-pub use writing::{Counted, Spaced, report, report_number, text};
+pub use writing::{Counted, Spaced, Whole, report, report_number, text};

@@ -2,28 +2,40 @@
 ghost use Rattle.std.specs.Prelude.{◌≡◌, Some, None};
 
 use crate::console::Console;
-use std::fmt::{Display, Formatter};
+use std::fmt;
+use std::fmt::{Display, Formatter, InlineText};
 use std::io::Write;
-use std::{fmt, io};
 
 // Bytes as they are: a script's name and a remark need not be text.
 pub fn text(console: &Console, words: &[u8]) {
     note(console, console.output.write_all(words));
 }
 
-// What `print!` and `println!` call.
+// What `print!` and `println!` call. The line feed of `println!` is a piece of its own; one that belongs to the words before it
+// stands in them.
 impl Console {
     pub fn print<T: Display + Drop>(&self, words: T) {
-        note(self, self.output.print(words));
+        note(self, Formatter::new(Pieces(self)).write(words));
     }
 
     pub fn println<T: Display + Drop>(&self, words: T) {
-        note(self, self.output.println(words));
+        note(self, Formatter::new(Pieces(self)).writeln(words));
+    }
+}
+
+// Standard output, to which each piece of a format, words or a number, is written alone: where one is lost, the others are not.
+#[derive(Clone, Copy)]
+struct Pieces<'a>(&'a Console);
+
+impl fmt::Write for Pieces<'_> {
+    fn write_str(&mut self, piece: &str) -> fmt::Result {
+        text(self.0, piece.as_bytes());
+        Ok(())
     }
 }
 
 // What could not be written is lost, and is reported.
-fn note(console: &Console, written: io::Result<()>) {
+fn note<E: Drop>(console: &Console, written: Result<(), E>) {
     if written.is_err() {
         report(console, b"lost\n");
     }
@@ -54,6 +66,16 @@ impl Display for Counted {
         let Counted(count, what) = *self;
         let plural = if count == 1 { "" } else { "s" };
         write!(f, "{count} {what}{plural}")
+    }
+}
+
+// What is written in one piece, of 128 bytes at most.
+#[derive(Clone, Copy)]
+pub struct Whole<T>(pub T);
+
+impl<T: Display> Display for Whole<T> {
+    fn fmt<W: fmt::Write>(&self, f: &mut Formatter<W>) -> fmt::Result {
+        f.write_str(InlineText::<128>::of(&self.0).as_str())
     }
 }
 

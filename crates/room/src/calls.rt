@@ -5,7 +5,7 @@ ghost use Rattle.lines.specs.declared.commands.Change.TheVariants.{Open};
 use crate::parts::Parts;
 use desk::{Changed, Desk, Left};
 use lines::commands::{Change, Question};
-use lines::{Console, Spaced, two_bytes};
+use lines::{Console, Spaced, Whole, two_bytes};
 use shown::{Asked, Lengths, accepted, beside, options_of, refused, rule_met, turns_made};
 
 pub fn change(console: &Console, parts: &mut Parts, change: Change, asked: Asked) {
@@ -89,7 +89,7 @@ fn example(console: &Console, parts: &Parts, asked: Asked) {
         None => print!(console; "option {} of feature {}:", asked.option, asked.feature),
         Some(refusal) => refused(console, refusal.number(), parts.lengths(), asked),
     }
-    println!(console; "{}", Spaced::entries(parts.example(asked)));
+    println!(console; "{}", Whole(Spaced::entries(parts.example(asked))));
 }
 
 // A refusal answers rule 0; were it another, it would be seen.

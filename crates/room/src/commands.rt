@@ -58,11 +58,11 @@ fn perform(console: &Console, parts: &mut Parts, command: Command, numbers: &[u3
         Command::Work => work::make_ready(console, parts, asked, watched),
         Command::SetNext => {
             parts.desk.next = byte(asked.seat);
-            println!(console; "set");
+            print!(console; "set\n");
         }
         Command::SetSeat(field) => {
             fields::set(&mut parts.desk, field, numbers);
-            println!(console; "set");
+            print!(console; "set\n");
         }
         Command::View(view) => show(console, parts, view, asked.seat),
         Command::Supply(_) | Command::Quit | Command::Exit => {}

@@ -1,11 +1,12 @@
 // A number that tells two desks or boards apart: sixteen hexadecimal digits.
 use desk::Desk;
-use lines::Console;
+use lines::{Console, Whole};
 use shown::digest::{fold, of_seat};
 
 pub fn digest(console: &Console, desk: Desk, board: &[u8]) {
     let with_desk = fold(of_seats(desk), &[desk.next]);
-    println!(console; "digest {:016x}", fold(with_desk, board));
+    let number = fold(with_desk, board);
+    println!(console; "digest {}", Whole(format_args!("{number:016x}")));
 }
 
 fn of_seats(desk: Desk) -> u64 {

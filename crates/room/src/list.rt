@@ -3,7 +3,7 @@ use crate::calls::{options_of_feature, ran_into};
 use crate::parts::Parts;
 use crate::work::no_product;
 use desk::Desk;
-use lines::{Console, Spaced, between};
+use lines::{Console, Spaced, Whole, between};
 use numbers::Refusal;
 use shown::{Asked, options_of, pair, refused};
 
@@ -15,7 +15,7 @@ pub fn list(console: &Console, parts: &Parts, seat: u32) {
     };
     match parts.unreadable(seat) {
         None => {
-            println!(console; "seat {seat} is ready");
+            print!(console; "seat {seat} is ready\n");
             no_product(console, parts.record(seat), parts.catalogue.sizes);
             features(console, parts, seat);
         }
@@ -60,7 +60,7 @@ fn feature(console: &Console, parts: &Parts, seat: u32, feature: u32) {
 // The build beside the option asked for.
 fn example(console: &Console, parts: &Parts, asked: Asked) {
     let build = Spaced::entries(between(parts.example(asked), 0, parts.catalogue.sizes.len()));
-    print!(console; "; with {}:{build}", asked.option);
+    print!(console; "; with {}:{}", asked.option, Whole(build));
 }
 
 // What could stand there instead.

@@ -39,7 +39,7 @@ impl Room {
     ) {
         match supply {
             Supply::Trolley => {
-                println!(console; "the trolley, eight seats closed");
+                print!(console; "the trolley, eight seats closed\n");
                 *self = Room::trolley(lent, self.watched);
             }
             Supply::Sizes => self.set_sizes(console, lent, numbers),
@@ -86,5 +86,5 @@ fn say_open(console: &Console, desk: Desk, good: bool) {
     if !good {
         print!(console; "mend the fault, then ");
     }
-    println!(console; "open begins anew");
+    print!(console; "open begins anew\n");
 }

@@ -86,7 +86,7 @@ impl Work {
         if self.portions % 8 == 0 && is_at_work(record) {
             self.write_over(console);
             pair(console, record, parts.catalogue.sizes);
-            println!(console; ", {} turns so far", self.turns);
+            print!(console; ", {} turns so far\n", self.turns);
             self.shown = true;
         }
     }
@@ -118,6 +118,6 @@ impl Work {
 
 pub fn no_product(console: &Console, record: Seat, sizes: &[u8]) {
     if nothing_left(record, sizes.len()) {
-        println!(console; "no product satisfies these rules");
+        print!(console; "no product satisfies these rules\n");
     }
 }

@@ -10,16 +10,15 @@ pub fn accepted(console: &Console, change: Change, asked: Asked) {
         option,
     } = asked;
     match change {
-        Change::Open => println!(console; "opened: eight seats, all closed"),
-        Change::Enter => println!(console; "seat {seat} has entered and is at work"),
-        Change::Leave => println!(console; "seat {seat} has left"),
+        Change::Open => print!(console; "opened: eight seats, all closed\n"),
+        Change::Enter => print!(console; "seat {seat} has entered and is at work\n"),
+        Change::Leave => print!(console; "seat {seat} has left\n"),
         Change::Choose => {
-            print!(console; "seat {seat} chose option {option} of feature {feature}");
-            println!(console; " and is at work");
+            print!(console; "seat {seat} chose ");
+            print!(console; "option {option} of feature {feature} and is at work\n");
         }
         Change::Relax => {
-            print!(console; "seat {seat} dropped its choice of feature {feature}");
-            println!(console; " and is at work");
+            print!(console; "seat {seat} dropped its choice of feature {feature} and is at work\n");
         }
     }
 }
@@ -31,8 +30,11 @@ pub fn beside(console: &Console, made: u16, working: bool) {
 }
 
 pub fn turns_made(console: &Console, made: u16, working: bool) {
-    let which = if working { "a" } else { "no" };
-    print!(console; "{made} turns made, {which} seat is at work");
+    if working {
+        print!(console; "{made} turns made, a seat is at work");
+    } else {
+        print!(console; "{made} turns made, no seat is at work");
+    }
 }
 
 // Which rule the search of a seat ran into last; 255 is none.

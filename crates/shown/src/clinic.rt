@@ -1,19 +1,19 @@
 // Looking at a seat's record and at a share of the board.
 ghost use Rattle.std.specs.Prelude.{◌≤◌};
 
-use lines::{Console, Spaced, between};
+use lines::{Console, Spaced, Whole, between};
 use search::{Place, Seat, State};
 use std::fmt;
 use std::fmt::{Display, Formatter};
 
 pub fn record(console: &Console, seat: Seat) {
     let state = Standing(seat.state);
-    let choices = Spaced::entries(&seat.choices);
-    let masks = Spaced::all(&seat.masks);
-    let alternatives = Spaced::all(&seat.alternatives);
-    let trial = Spaced::entries(&seat.trial);
+    let choices = Whole(Spaced::entries(&seat.choices));
+    let masks = Whole(Spaced::all(&seat.masks));
+    let alternatives = Whole(Spaced::all(&seat.alternatives));
+    let trial = Whole(Spaced::entries(&seat.trial));
     let broken = [seat.broken];
-    let rule = Spaced::entries(&broken);
+    let rule = Whole(Spaced::entries(&broken));
     print!(console; "{state}; choices{choices}; masks{masks}");
     println!(console; "; alternatives{alternatives}; trial{trial}; rule{rule}");
 }
@@ -70,12 +70,12 @@ pub fn nothing_left(seat: Seat, features: usize) -> bool {
 pub fn share(console: &Console, board: &[u8], seat: u32) {
     let length = board.len();
     if length != 32768 {
-        println!(console; "the board has {length} bytes, so no shares");
+        print!(console; "the board has {length} bytes, so no shares\n");
         return;
     }
     let from = (seat % 8) as usize * 4096;
     let count = examples(console, &board[from..from + 4096]);
-    println!(console; "share {seat}: {count} examples");
+    print!(console; "share {seat}: {count} examples\n");
 }
 
 // A line for each example; answers how many there are.
@@ -97,7 +97,7 @@ fn example(console: &Console, k: usize, bytes: &[u8; 16]) -> usize
     }
     let feature = k / 16;
     let option = k % 16;
-    let entries = Spaced::entries(bytes);
+    let entries = Whole(Spaced::entries(bytes));
     println!(console; "option {option} of feature {feature}:{entries}");
     1
 }

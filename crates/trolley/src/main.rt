@@ -3,8 +3,7 @@
 #![tactic(auto)]
 
 use desk::Catalogue;
-use std::fmt::{Display, Formatter};
-use std::{fmt, io};
+use std::io;
 
 const SIZES: [u8; 3] = [3, 3, 2];
 // rule A on features 0, 1: (0,1) (1,0) (1,2) (2,1); rule B on features 1, 2: (0,0) (1,1) (2,0) (2,1)
@@ -25,28 +24,24 @@ fn main(rt: HostRuntime) -> io::Result<()> {
     let again = desk::turns(chosen.desk, &mut board, &catalogue, 65535);
     for i in 0..SIZES.len() {
         let left = desk::options(again.desk, &board, &catalogue, 3, i);
-        let options = Options(left.mask);
-        let count = left.count;
-        println!(rt; "{i} {options} {count}")?;
+        print!(rt; "{i} ")?;
+        print_options(&rt, left.mask)?;
+        println!(rt; " {}", left.count)?;
     }
     Ok(())
 }
 
-// The options of a mask joined by commas, "-" if none.
-#[derive(Clone, Copy)]
-struct Options(u16);
-
-impl Display for Options {
-    fn fmt<W: fmt::Write>(&self, f: &mut Formatter<W>) -> fmt::Result {
-        let mask = self.0;
-        if mask == 0 {
-            return f.write_str("-");
-        }
-        let first = mask.trailing_zeros();
-        for a in (first..16).filter(|a| mask >> *a & 1 == 1) {
-            let comma = if a == first { "" } else { "," };
-            write!(f, "{comma}{a}")?;
-        }
-        Ok(())
+// The options of a mask joined by commas, "-" if none. Each print is one write: what comes before one that fails is there.
+fn print_options(rt: &impl Print, mask: u16) -> io::Result<()> {
+    if mask == 0 {
+        return print!(rt; "-");
     }
+    let first = mask.trailing_zeros();
+    for a in (first..16).filter(|a| mask >> *a & 1 == 1) {
+        if a != first {
+            print!(rt; ",")?;
+        }
+        print!(rt; "{a}")?;
+    }
+    Ok(())
 }

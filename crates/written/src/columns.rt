@@ -1,6 +1,6 @@
 // A catalogue in columns: what a line begins with takes 8 bytes, each number 4.
 use crate::faults::fault;
-use crate::lists::Columns;
+use crate::lists::{Blanks, Columns};
 use crate::met::{Met, arity, cut, features_and_rows, first_rule, meet, row_count};
 use catalogue::Catalogue;
 use lines::{Console, Counted};
@@ -22,7 +22,7 @@ pub fn catalogue(console: &Console, catalogue: &Catalogue) {
 
 fn first_numbers(console: &Console, count: usize) {
     for i in 0..count {
-        print!(console; "{i:>4}");
+        print!(console; "{}{i}", Blanks(i));
     }
 }
 
@@ -38,8 +38,8 @@ fn first_rules(console: &Console, found: Met) {
 fn write_rule(console: &Console, i: usize, rule: &[u16]) {
     let (features, rows) = features_and_rows(rule);
     let count = row_count(rule);
-    println!(console; "rule {i}: {}", Counted(count as u64, "row"));
-    println!(console; "feature {}", Columns(features));
+    print!(console; "rule {i}: {}\nfeature ", Counted(count as u64, "row"));
+    println!(console; "{}", Columns(features));
     write_rows(console, rows, arity(rule), count);
 }
 
@@ -47,7 +47,7 @@ fn write_rows(console: &Console, rows: &[u16], k: usize, count: usize) {
     let mut rest = rows;
     for i in 0..count {
         let (row, after) = cut(rest, k);
-        println!(console; "row {i:<4}{}", Columns(row));
+        println!(console; "row {i}{}{}", Blanks(i), Columns(row));
         rest = after;
     }
 }

@@ -15,11 +15,27 @@ pub fn numbers(console: &Console, catalogue: &Catalogue) {
 #[derive(Clone, Copy)]
 pub struct Columns<'a, T>(pub &'a [T]);
 
-impl<'a, T: Display> Display for Columns<'a, T> {
+impl<'a, T: Copy + Into<usize>> Display for Columns<'a, T> {
     fn fmt<W: fmt::Write>(&self, f: &mut Formatter<W>) -> fmt::Result {
         for n in self.0 {
-            write!(f, "{n:>4}")?;
+            let n: usize = (*n).into();
+            write!(f, "{}{n}", Blanks(n))?;
         }
         Ok(())
+    }
+}
+
+// What fills a number up to four bytes.
+#[derive(Clone, Copy)]
+pub struct Blanks(pub usize);
+
+impl Display for Blanks {
+    fn fmt<W: fmt::Write>(&self, f: &mut Formatter<W>) -> fmt::Result {
+        f.write_str(match self.0 {
+            0..=9 => "   ",
+            10..=99 => "  ",
+            100..=999 => " ",
+            _ => "",
+        })
     }
 }
