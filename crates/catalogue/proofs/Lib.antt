@@ -1,2 +1,3 @@
 -- What the checks' walks share.
 pub mod Walks
+pub mod Columns

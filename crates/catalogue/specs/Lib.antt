@@ -1,2 +1,3 @@
--- What a reader of this crate must believe.
+-- What a reader of this crate must believe; `Inner` is for code and proofs alone.
 pub mod Lent
+pub mod Inner

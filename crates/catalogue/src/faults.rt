@@ -1,8 +1,9 @@
 // The fault met first: one function for each part of the reading, one walk each.
-ghost use Rattle.std.specs.Prelude.{◌≡◌, ℕ, [], ◌≤◌, ◌<◌, ◌*◌, length};
+ghost use Rattle.std.specs.Prelude.{◌≡◌, ℕ, [], ◌≤◌, ◌<◌, ◌*◌, length, drop};
 ghost use Rattle.numbers.specs.Refusal.{refusal_number};
-ghost use Rattle.builds.specs.Fault.{sizes_fault, features_fault, row_fits, rows_fault, rule_fault, rules_fault, fault_of};
+ghost use Rattle.builds.specs.Fault.{sizes_fault, features_fault, rows_fault, rule_fault, rules_fault, fault_of};
 ghost use Rattle.builds.specs.Catalogue.{arity, width};
+ghost use Rattle.catalogue.specs.Inner.Column.{column_fits};
 ghost use Rattle.catalogue.specs.Lent.{catalogue_lent};
 
 use crate::lent::Catalogue;
@@ -104,32 +105,35 @@ fn features_fault(count: usize, features: &[u16]) -> Result<(), Refusal>
     Ok(())
 }
 
-// As many rows as the rule says, cut off one by one: `chunks_exact` would divide to find how many there are. Not inlined:
-// that is faster where rows are many (docs/DESIGN-PASS.md).
-#[inline(never)]
+// Feature by feature, since each feature's size is looked up once then: 18 doesn't say where an option is too high.
 fn rows_fault(sizes: &[u8], features: &[u16], rows: &[u16], count: usize) -> Result<(), Refusal>
     requires { length features.now * count ≡ length rows.now }
     ensures { refusal_number result ≡ rows_fault sizes.now features.now count rows.now }
 {
-    let mut rest = rows;
-    for passed in 0..count {
-        if !row_fits(sizes, features, &rest[..features.len()]) {
+    if count == 0 {
+        return Ok(());
+    }
+    for (i, feature) in features.iter().enumerate() {
+        let size = size_at(sizes, usize::from(*feature));
+        if !column_fits(size, rows, i, features.len(), count) {
             return Err(Refusal::RowOptionTooHigh);
         }
-        rest = &rest[features.len()..];
     }
     Ok(())
 }
 
-// Each option below the size of its feature.
-fn row_fits(sizes: &[u8], features: &[u16], row: &[u16]) -> bool
-    requires { length row.now ≡ length features.now }
-    ensures { result ≡ row_fits sizes.now features.now row.now }
+// The options of one feature, one in each row.
+fn column_fits(size: usize, rows: &[u16], i: usize, width: usize, count: usize) -> bool
+    requires inside { i < width }
+    requires whole { width * count ≡ length rows.now }
+    ensures { result ≡ column_fits size width count (drop i rows.now) }
 {
-    for (i, feature) in features.iter().enumerate() {
-        if size_at(sizes, usize::from(*feature)) <= usize::from(row[i]) {
+    let mut rest = rows;
+    for passed in 0..count {
+        if size <= usize::from(rest[i]) {
             return false;
         }
+        rest = &rest[width..];
     }
     true
 }

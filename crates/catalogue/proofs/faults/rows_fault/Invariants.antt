@@ -1,15 +1,9 @@
--- `faults::rows_fault`: the fault of all rows is at each turn the fault of those that are left, since a row that fits gives
--- none.
-use Prim.Native.Nat.{ℕ, ◌-◌, ◌*◌}
+-- `faults::rows_fault`: whether all columns fit is at each turn whether those do that are left, since every column passed fits.
 use mathlib.Core.Path.{◌≡◌}
-use mathlib.Core.List.{List}
-use lib.ListN.{length}
-use Rattle.builds.specs.Fault.{rows_fault}
+use lib.ListN.{length, drop}
+use Rattle.catalogue.proofs.Columns.{columns_fit}
 use Rattle.catalogue.proofs.faults.rows_fault.Given as goal
 
-pub record RowsLeft (sizes fs rows rest : List ℕ) (count left : ℕ) : Type 0 where
-  pub so_many : length fs * left ≡ length rest
-  pub same_fault : rows_fault sizes fs count rows ≡ rows_fault sizes fs left rest
-
-abbrev pub invariant-loop-passed : goal.invariant-loop-passed
-invariant-loop-passed l = RowsLeft l.sizes l.features l.rows l.rest l.count (l.count - l.passed)
+abbrev pub invariant-loop-i : goal.invariant-loop-i
+invariant-loop-i l = columns_fit l.sizes l.features (length l.features) l.count l.rows
+    ≡ columns_fit l.sizes (drop l.i l.features) (length l.features) l.count (drop l.i l.rows)

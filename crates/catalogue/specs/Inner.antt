@@ -1,0 +1,2 @@
+-- What code and proofs say in passing; no promise cites it.
+pub mod Column
