@@ -53,8 +53,9 @@ pub fn report_number(console: &Console, word: &[u8], n: u64) {
     report(console, word);
     if let Some(file) = &console.reports {
         let mut to = file;
-        let _ = writeln!(to, "{n}");
+        let _ = write!(to, "{n}");
     }
+    report(console, b"\n");
 }
 
 // So many of something: `1 rule`, `2 rules`.
